@@ -1,0 +1,6 @@
+pub mod Codes
+pub mod Bits
+pub mod Encoding
+pub mod Patterns
+pub mod Codec
+pub mod Examples

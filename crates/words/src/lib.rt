@@ -1,0 +1,3 @@
+// The instruction words of the LatticeMico8: what they mean, how they are read and written.
+pub mod codes;
+pub mod instruction;
