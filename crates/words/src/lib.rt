@@ -1,3 +1,5 @@
 // The instruction words of the LatticeMico8: what they mean, how they are read and written.
 pub mod codes;
+pub mod hex;
 pub mod instruction;
+pub mod text;

@@ -1,0 +1,166 @@
+// Instructions as the maker's guide writes them.
+ghost use mathlib.Core.Path.{_≡_};
+ghost use Rattle.std.specs.declared.option.Option.the-variants.{Some};
+ghost use Rattle.words.specs.Hex.{hexByte};
+ghost use Rattle.words.specs.Text.{registerMnemonic, immediateMnemonic, rotationMnemonic, flagMnemonic, transferMnemonic, conditionSuffix, registerName, text};
+use crate::codes::Condition;
+use crate::codes::FlagChange;
+use crate::codes::Operation;
+use crate::codes::Rotation;
+use crate::codes::Transfer;
+use crate::hex::hex_digit;
+use crate::instruction::Instruction;
+use std::fmt;
+
+impl Operation {
+    fn register_mnemonic(self) -> &'static str
+        ensures { λ r. ⌜ now r ≡ registerMnemonic self ⌝ }
+    {
+        match self {
+            Operation::Sub => "sub",
+            Operation::Subc => "subc",
+            Operation::Add => "add",
+            Operation::Addc => "addc",
+            Operation::Mov => "mov",
+            Operation::And => "and",
+            Operation::Or => "or",
+            Operation::Xor => "xor",
+            Operation::Cmp => "cmp",
+            Operation::Test => "test",
+        }
+    }
+
+    fn immediate_mnemonic(self) -> &'static str
+        ensures { λ r. ⌜ now r ≡ immediateMnemonic self ⌝ }
+    {
+        match self {
+            Operation::Sub => "subi",
+            Operation::Subc => "subic",
+            Operation::Add => "addi",
+            Operation::Addc => "addic",
+            Operation::Mov => "movi",
+            Operation::And => "andi",
+            Operation::Or => "ori",
+            Operation::Xor => "xori",
+            Operation::Cmp => "cmpi",
+            Operation::Test => "testi",
+        }
+    }
+}
+
+impl Rotation {
+    fn mnemonic(self) -> &'static str
+        ensures { λ r. ⌜ now r ≡ rotationMnemonic self ⌝ }
+    {
+        match self {
+            Rotation::Ror => "ror",
+            Rotation::Rol => "rol",
+            Rotation::Rorc => "rorc",
+            Rotation::Rolc => "rolc",
+        }
+    }
+}
+
+impl FlagChange {
+    fn mnemonic(self) -> &'static str
+        ensures { λ r. ⌜ now r ≡ flagMnemonic self ⌝ }
+    {
+        match self {
+            FlagChange::Clrc => "clrc",
+            FlagChange::Setc => "setc",
+            FlagChange::Clrz => "clrz",
+            FlagChange::Setz => "setz",
+            FlagChange::Clri => "clri",
+            FlagChange::Seti => "seti",
+        }
+    }
+}
+
+impl Transfer {
+    fn mnemonic(self) -> &'static str
+        ensures { λ r. ⌜ now r ≡ transferMnemonic self ⌝ }
+    {
+        match self {
+            Transfer::Export => "export",
+            Transfer::Import => "import",
+            Transfer::Store => "ssp",
+            Transfer::Load => "lsp",
+        }
+    }
+}
+
+impl Condition {
+    fn suffix(self) -> &'static str
+        ensures { λ r. ⌜ now r ≡ conditionSuffix self ⌝ }
+    {
+        match self {
+            Condition::Zero => "z",
+            Condition::NotZero => "nz",
+            Condition::Carry => "c",
+            Condition::NotCarry => "nc",
+        }
+    }
+}
+
+// The name of a register, as `R07`.
+#[derive(Clone, Copy)]
+struct RegisterName(u8);
+
+impl fmt::Display for RegisterName as RegisterNameDisplay {
+    ghost shown = { λ r. Some (registerName (r .0)) };
+
+    fn fmt<W: fmt::Write>(&self, f: &mut fmt::Formatter<W>) -> fmt::Result {
+        let number = self.0;
+        if number < 10 {
+            write!(f, "R0{number}")
+        } else {
+            write!(f, "R{number}")
+        }
+    }
+}
+
+// A byte in hexadecimal, as `0x2A`.
+#[derive(Clone, Copy)]
+struct HexByte(u8);
+
+impl fmt::Display for HexByte as HexByteDisplay {
+    ghost shown = { λ b. Some (hexByte (b .0)) };
+
+    fn fmt<W: fmt::Write>(&self, f: &mut fmt::Formatter<W>) -> fmt::Result {
+        let byte = u32::from(self.0);
+        let high = hex_digit(byte / 16);
+        let low = hex_digit(byte);
+        write!(f, "0x{high}{low}")
+    }
+}
+
+pub impl fmt::Display for Instruction as InstructionDisplay {
+    ghost shown = { λ i. Some (text i) };
+
+    fn fmt<W: fmt::Write>(&self, f: &mut fmt::Formatter<W>) -> fmt::Result {
+        match *self {
+            Instruction::Register { operation, rd, rb } => {
+                write!(f, "{} {},{}", operation.register_mnemonic(), RegisterName(rd), RegisterName(rb))
+            }
+            Instruction::Immediate { operation, rd, constant } => {
+                write!(f, "{} {},{}", operation.immediate_mnemonic(), RegisterName(rd), HexByte(constant))
+            }
+            Instruction::Rotate { rotation, rd, rb } => {
+                write!(f, "{} {},{}", rotation.mnemonic(), RegisterName(rd), RegisterName(rb))
+            }
+            Instruction::Flag { change } => write!(f, "{}", change.mnemonic()),
+            Instruction::Direct { transfer, rd, number } => {
+                write!(f, "{} {},{}", transfer.mnemonic(), RegisterName(rd), HexByte(number))
+            }
+            Instruction::Indirect { transfer, rd, rb } => {
+                write!(f, "{}i {},{}", transfer.mnemonic(), RegisterName(rd), RegisterName(rb))
+            }
+            Instruction::BranchIf { condition, offset } => write!(f, "b{} {offset}", condition.suffix()),
+            Instruction::CallIf { condition, offset } => write!(f, "call{} {offset}", condition.suffix()),
+            Instruction::Call { offset } => write!(f, "call {offset}"),
+            Instruction::Return => write!(f, "ret"),
+            Instruction::ReturnFromInterrupt => write!(f, "iret"),
+            Instruction::Branch { offset } => write!(f, "b {offset}"),
+        }
+    }
+}
