@@ -1,1 +1,5 @@
 pub mod Fronts
+pub mod Laws
+pub mod Prefix
+pub mod Sofar
+pub mod Verdicts
