@@ -1,5 +1,6 @@
 pub mod Fronts
 pub mod Laws
+pub mod Lines
 pub mod Prefix
 pub mod Sofar
 pub mod Verdicts

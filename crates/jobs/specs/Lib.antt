@@ -1,3 +1,4 @@
 pub mod Jobs
+pub mod Listing
 pub mod Records
 pub mod Taking

@@ -18,7 +18,7 @@ use Rattle.words.specs.declared.codes.Transfer.{Transfer}
 use Rattle.words.specs.declared.codes.Transfer.the-variants.{Export, Import, Store, Load}
 use Rattle.words.specs.declared.instruction.Instruction.{Instruction}
 use Rattle.words.specs.declared.instruction.Instruction.the-variants.{Register, Immediate, Rotate, Flag, Direct, Indirect, BranchIf, CallIf, Call, Return, ReturnFromInterrupt, Branch}
-use Rattle.words.specs.Hex.{hexByte}
+use Rattle.words.specs.Hex.{hexTwo}
 
 abbrev pub registerMnemonic : Operation → List ℕ
 registerMnemonic Sub = codes "sub"
@@ -81,10 +81,10 @@ twoOperands mnemonic first second = mnemonic ++ (codes " " ++ (first ++ (codes "
 
 abbrev pub text : Instruction → List ℕ
 text (Register operation rd rb) = twoOperands (registerMnemonic operation) (registerName rd) (registerName rb)
-text (Immediate operation rd constant) = twoOperands (immediateMnemonic operation) (registerName rd) (hexByte constant)
+text (Immediate operation rd constant) = twoOperands (immediateMnemonic operation) (registerName rd) (codes "0x" ++ hexTwo constant)
 text (Rotate rotation rd rb) = twoOperands (rotationMnemonic rotation) (registerName rd) (registerName rb)
 text (Flag change) = flagMnemonic change
-text (Direct transfer rd number) = twoOperands (transferMnemonic transfer) (registerName rd) (hexByte number)
+text (Direct transfer rd number) = twoOperands (transferMnemonic transfer) (registerName rd) (codes "0x" ++ hexTwo number)
 text (Indirect transfer rd rb) = transferMnemonic transfer ++ (twoOperands (codes "i") (registerName rd) (registerName rb))
 text (BranchIf condition offset) = codes "b" ++ (conditionSuffix condition ++ (codes " " ++ signed offset))
 text (CallIf condition offset) = codes "call" ++ (conditionSuffix condition ++ (codes " " ++ signed offset))

@@ -1,16 +1,16 @@
 // Instructions as the maker's guide writes them.
 ghost use mathlib.Core.Path.{_≡_};
 ghost use Rattle.std.specs.declared.option.Option.the-variants.{Some};
-ghost use Rattle.words.specs.Hex.{hexByte};
 ghost use Rattle.words.specs.Text.{registerMnemonic, immediateMnemonic, rotationMnemonic, flagMnemonic, transferMnemonic, conditionSuffix, registerName, text};
 use crate::codes::Condition;
 use crate::codes::FlagChange;
 use crate::codes::Operation;
 use crate::codes::Rotation;
 use crate::codes::Transfer;
-use crate::hex::hex_digit;
+use crate::hex::HexTwo;
 use crate::instruction::Instruction;
 use std::fmt;
+use crate::hex::HexTwoDisplay;
 
 impl Operation {
     fn register_mnemonic(self) -> &'static str
@@ -119,21 +119,6 @@ impl fmt::Display for RegisterName as RegisterNameDisplay {
     }
 }
 
-// A byte in hexadecimal, as `0x2A`.
-#[derive(Clone, Copy)]
-struct HexByte(u8);
-
-impl fmt::Display for HexByte as HexByteDisplay {
-    ghost shown = { λ b. Some (hexByte (b .0)) };
-
-    fn fmt<W: fmt::Write>(&self, f: &mut fmt::Formatter<W>) -> fmt::Result {
-        let byte = u32::from(self.0);
-        let high = hex_digit(byte / 16);
-        let low = hex_digit(byte);
-        write!(f, "0x{high}{low}")
-    }
-}
-
 pub impl fmt::Display for Instruction as InstructionDisplay {
     ghost shown = { λ i. Some (text i) };
 
@@ -143,14 +128,14 @@ pub impl fmt::Display for Instruction as InstructionDisplay {
                 write!(f, "{} {},{}", operation.register_mnemonic(), RegisterName(rd), RegisterName(rb))
             }
             Instruction::Immediate { operation, rd, constant } => {
-                write!(f, "{} {},{}", operation.immediate_mnemonic(), RegisterName(rd), HexByte(constant))
+                write!(f, "{} {},0x{}", operation.immediate_mnemonic(), RegisterName(rd), HexTwo(constant as usize))
             }
             Instruction::Rotate { rotation, rd, rb } => {
                 write!(f, "{} {},{}", rotation.mnemonic(), RegisterName(rd), RegisterName(rb))
             }
             Instruction::Flag { change } => write!(f, "{}", change.mnemonic()),
             Instruction::Direct { transfer, rd, number } => {
-                write!(f, "{} {},{}", transfer.mnemonic(), RegisterName(rd), HexByte(number))
+                write!(f, "{} {},0x{}", transfer.mnemonic(), RegisterName(rd), HexTwo(number as usize))
             }
             Instruction::Indirect { transfer, rd, rb } => {
                 write!(f, "{}i {},{}", transfer.mnemonic(), RegisterName(rd), RegisterName(rb))
