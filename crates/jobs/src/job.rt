@@ -84,7 +84,10 @@ impl Job {
             words: Vec::new(heap),
             ticks: Vec::new(heap),
         };
-        let mut reader = Reader { rest: bytes, place: 0 };
+        let mut reader = Reader {
+            rest: bytes,
+            place: 0,
+        };
         while !reader.rest.is_empty() {
             let place = reader.place;
             let record = reader.take_record()?;

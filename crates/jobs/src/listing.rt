@@ -18,11 +18,11 @@ use std::alloc::AllocError;
 use std::alloc::Global;
 use std::fmt;
 use words::hex::HexFour;
+use words::hex::HexFourDisplay;
 use words::hex::HexTwo;
+use words::hex::HexTwoDisplay;
 use words::hex::hex_digit;
 use words::instruction::Instruction;
-use words::hex::HexFourDisplay;
-use words::hex::HexTwoDisplay;
 use words::text::InstructionDisplay;
 
 // A word in hexadecimal: five digits, or six where it needs them.
@@ -58,7 +58,11 @@ impl Line {
         ensures { λ r. ⌜ (r .address ≡ address) × (r .word ≡ word) × Decodes word (r .decoded) ⌝ }
     {
         let decoded = Instruction::decode(word);
-        Line { address, word, decoded }
+        Line {
+            address,
+            word,
+            decoded,
+        }
     }
 }
 
@@ -86,7 +90,11 @@ impl fmt::Display for Summary as SummaryDisplay {
     ghost shown = { λ s. Some (summaryText (s .pages) (s .ticks)) };
 
     fn fmt<W: fmt::Write>(&self, f: &mut fmt::Formatter<W>) -> fmt::Result {
-        write!(f, "pages {} to {}, ticks {}", self.pages.first, self.pages.last, self.ticks)
+        write!(
+            f,
+            "pages {} to {}, ticks {}",
+            self.pages.first, self.pages.last, self.ticks
+        )
     }
 }
 
@@ -116,7 +124,10 @@ fn write_listing(text: &mut String, job: &Job) -> fmt::Result
     ensures { λ r. ⌜ made r (λ _. (lines : List ℕ) × Lists (accepted (now (job .entry) .pages) (vec-items (now (job .entry) .words)) (vec-items (now (job .entry) .ticks))) lines × (string-bytes (now (text .exit)) ≡ string-bytes (now (text .entry)) ++ lines)) ⌝ }
 {
     write_lines(text, job.words.as_slice())?;
-    let summary = Summary { pages: job.pages, ticks: job.ticks.len() };
+    let summary = Summary {
+        pages: job.pages,
+        ticks: job.ticks.len(),
+    };
     writeln!(text, "{summary}")?;
     Ok(())
 }

@@ -54,10 +54,22 @@ pub impl fmt::Display for Refusal as RefusalDisplay {
 
     fn fmt<W: fmt::Write>(&self, f: &mut fmt::Formatter<W>) -> fmt::Result {
         match self {
-            Refusal::UndefinedWord { pc } => write!(f, "the word at address {pc} is no instruction"),
-            Refusal::UnknownKind { place } => write!(f, "the record at byte {place} has an unknown kind"),
-            Refusal::RecordCutOff { place } => write!(f, "the job ends inside the record at byte {place}"),
-            Refusal::TooManyRecords { place } => write!(f, "the record at byte {place} is one word or tick too many: 4096 are allowed"),
+            Refusal::UndefinedWord { pc } => write!(
+                f,
+                "the word at address {pc} is no instruction"
+            ),
+            Refusal::UnknownKind { place } => write!(
+                f,
+                "the record at byte {place} has an unknown kind"
+            ),
+            Refusal::RecordCutOff { place } => write!(
+                f,
+                "the job ends inside the record at byte {place}"
+            ),
+            Refusal::TooManyRecords { place } => write!(
+                f,
+                "the record at byte {place} is one word or tick too many: 4096 are allowed"
+            ),
             Refusal::JobTooLong => write!(f, "the job has more than 65535 bytes"),
             Refusal::FieldOutOfRange => write!(f, "a field of the instruction is out of range"),
         }

@@ -31,8 +31,18 @@ fn every_defined_word_comes_back() -> Result<(), Fail> {
 
 #[test]
 fn wide_words_are_refused() -> Result<(), Fail> {
-    for word in [0x4_0000, 0x4_8110, 0x10_0000, 0xFF_FFFF, 0x8000_0000, u32::MAX] {
-        check_eq(Instruction::decode(word), Err(Refusal::UndefinedWord { pc: 0 }))?;
+    for word in [
+        0x4_0000,
+        0x4_8110,
+        0x10_0000,
+        0xFF_FFFF,
+        0x8000_0000,
+        u32::MAX,
+    ] {
+        check_eq(
+            Instruction::decode(word),
+            Err(Refusal::UndefinedWord { pc: 0 }),
+        )?;
     }
     Ok(())
 }
@@ -70,9 +80,15 @@ fn figures_of_the_guide(rt: LibcRuntime) -> Result<(), Fail> {
 // The guide's listing gives 0x33001 for `b start`, one word ahead; its bit tables make that word a `bnc`, and `b` 0x3B001.
 #[test]
 fn bit_tables_decide() -> Result<(), Fail> {
-    let bnc = Instruction::BranchIf { condition: Condition::NotCarry, offset: 1 };
+    let bnc = Instruction::BranchIf {
+        condition: Condition::NotCarry,
+        offset: 1,
+    };
     check_eq(Instruction::decode(0x33001), Ok(bnc))?;
-    check_eq(Instruction::decode(0x3B001), Ok(Instruction::Branch { offset: 1 }))
+    check_eq(
+        Instruction::decode(0x3B001),
+        Ok(Instruction::Branch { offset: 1 }),
+    )
 }
 
 // One word of each pattern, worked out from the bit tables.
@@ -116,30 +132,83 @@ fn samples_of_every_pattern(rt: LibcRuntime) -> Result<(), Fail> {
 
 // Words that miss a pattern by one bit, and the reserved opcodes.
 const UNDEFINED: [u32; 14] = [
-    0x00001, 0x08111, 0x24007, 0x28004, 0x28F0F, 0x2A000, 0x2C006, 0x2C008, 0x2D000, 0x39001, 0x3A800, 0x3C000, 0x3D000,
+    0x00001,
+    0x08111,
+    0x24007,
+    0x28004,
+    0x28F0F,
+    0x2A000,
+    0x2C006,
+    0x2C008,
+    0x2D000,
+    0x39001,
+    0x3A800,
+    0x3C000,
+    0x3D000,
     0x3FFFF,
 ];
 
 #[test]
 fn near_misses_are_refused() -> Result<(), Fail> {
     for word in UNDEFINED {
-        check_eq(Instruction::decode(word), Err(Refusal::UndefinedWord { pc: 0 }))?;
+        check_eq(
+            Instruction::decode(word),
+            Err(Refusal::UndefinedWord { pc: 0 }),
+        )?;
     }
     Ok(())
 }
 
 // Each instruction with a field just out of range.
 const MISFITS: [Instruction; 12] = [
-    Instruction::Register { operation: Operation::Add, rd: 32, rb: 0 },
-    Instruction::Register { operation: Operation::Add, rd: 0, rb: 32 },
-    Instruction::Immediate { operation: Operation::Mov, rd: 32, constant: 0 },
-    Instruction::Rotate { rotation: Rotation::Ror, rd: 255, rb: 0 },
-    Instruction::Rotate { rotation: Rotation::Ror, rd: 0, rb: 255 },
-    Instruction::Direct { transfer: Transfer::Store, rd: 0, number: 32 },
-    Instruction::Indirect { transfer: Transfer::Load, rd: 32, rb: 0 },
-    Instruction::Indirect { transfer: Transfer::Load, rd: 0, rb: 32 },
-    Instruction::BranchIf { condition: Condition::Zero, offset: 2048 },
-    Instruction::CallIf { condition: Condition::Carry, offset: -2049 },
+    Instruction::Register {
+        operation: Operation::Add,
+        rd: 32,
+        rb: 0,
+    },
+    Instruction::Register {
+        operation: Operation::Add,
+        rd: 0,
+        rb: 32,
+    },
+    Instruction::Immediate {
+        operation: Operation::Mov,
+        rd: 32,
+        constant: 0,
+    },
+    Instruction::Rotate {
+        rotation: Rotation::Ror,
+        rd: 255,
+        rb: 0,
+    },
+    Instruction::Rotate {
+        rotation: Rotation::Ror,
+        rd: 0,
+        rb: 255,
+    },
+    Instruction::Direct {
+        transfer: Transfer::Store,
+        rd: 0,
+        number: 32,
+    },
+    Instruction::Indirect {
+        transfer: Transfer::Load,
+        rd: 32,
+        rb: 0,
+    },
+    Instruction::Indirect {
+        transfer: Transfer::Load,
+        rd: 0,
+        rb: 32,
+    },
+    Instruction::BranchIf {
+        condition: Condition::Zero,
+        offset: 2048,
+    },
+    Instruction::CallIf {
+        condition: Condition::Carry,
+        offset: -2049,
+    },
     Instruction::Call { offset: i16::MAX },
     Instruction::Branch { offset: i16::MIN },
 ];
@@ -149,5 +218,10 @@ fn fields_out_of_range_are_refused() -> Result<(), Fail> {
     for instruction in MISFITS {
         check_eq(instruction.encode(), Err(Refusal::FieldOutOfRange))?;
     }
-    check_eq(Instruction::Flag { change: FlagChange::Seti }.encode(), Ok(0x2C005))
+    check_eq(
+        Instruction::Flag {
+            change: FlagChange::Seti,
+        }.encode(),
+        Ok(0x2C005),
+    )
 }

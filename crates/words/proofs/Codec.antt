@@ -116,8 +116,9 @@ module _ (w : ℕ) (below : w < 2 ^ 18) where
   written-transfer : TransferPattern w → Written w
   unfolding Written
   written-transfer p = elim (cases-lt (bits 1 1 w) 1) [
-    inl z ↦ (Direct (transferAt (bits 2 0 w)) (bits 12 8 w) (bits 7 3 w), let k = transfer-at (bits 2 0 w) (omega arith) (omega arith) in grind arith) |
-    inr z ↦ (Indirect (transferAt (bits 2 0 w - 2)) (bits 12 8 w) (bits 7 3 w), let k = transfer-at (bits 2 0 w - 2) (omega arith) (omega arith) in grind arith) ]
+    | inl z ↦ (Direct (transferAt (bits 2 0 w)) (bits 12 8 w) (bits 7 3 w), let k = transfer-at (bits 2 0 w) (omega arith) (omega arith) in grind arith)
+    | inr z ↦ (Indirect (transferAt (bits 2 0 w - 2)) (bits 12 8 w) (bits 7 3 w), let k = transfer-at (bits 2 0 w - 2) (omega arith) (omega arith) in grind arith)
+  ]
 
   written-conditional : ConditionalPattern w → Written w
   unfolding Written
@@ -125,8 +126,9 @@ module _ (w : ℕ) (below : w < 2 ^ 18) where
       let k = condition-at (bits 13 12 w) (omega arith) in
       let o = offset-at (bits 11 0 w) (omega arith) in
       elim (cases-lt (bits 14 14 w) 1) [
-        inl z ↦ (BranchIf (conditionAt (bits 13 12 w)) (offsetAt (bits 11 0 w)), (o .0, grind (arith, o .1))) |
-        inr z ↦ (CallIf (conditionAt (bits 13 12 w)) (offsetAt (bits 11 0 w)), (o .0, grind (arith, o .1))) ]
+        | inl z ↦ (BranchIf (conditionAt (bits 13 12 w)) (offsetAt (bits 11 0 w)), (o .0, grind (arith, o .1)))
+        | inr z ↦ (CallIf (conditionAt (bits 13 12 w)) (offsetAt (bits 11 0 w)), (o .0, grind (arith, o .1)))
+      ]
 
   written-unconditional : UnconditionalPattern w → Written w
   unfolding Written

@@ -8,9 +8,9 @@ use crate::codes::Operation;
 use crate::codes::Rotation;
 use crate::codes::Transfer;
 use crate::hex::HexTwo;
+use crate::hex::HexTwoDisplay;
 use crate::instruction::Instruction;
 use std::fmt;
-use crate::hex::HexTwoDisplay;
 
 impl Operation {
     fn register_mnemonic(self) -> &'static str
@@ -125,23 +125,69 @@ pub impl fmt::Display for Instruction as InstructionDisplay {
     fn fmt<W: fmt::Write>(&self, f: &mut fmt::Formatter<W>) -> fmt::Result {
         match *self {
             Instruction::Register { operation, rd, rb } => {
-                write!(f, "{} {},{}", operation.register_mnemonic(), RegisterName(rd), RegisterName(rb))
+                write!(
+                    f,
+                    "{} {},{}",
+                    operation.register_mnemonic(),
+                    RegisterName(rd),
+                    RegisterName(rb)
+                )
             }
-            Instruction::Immediate { operation, rd, constant } => {
-                write!(f, "{} {},0x{}", operation.immediate_mnemonic(), RegisterName(rd), HexTwo(constant as usize))
+            Instruction::Immediate {
+                operation,
+                rd,
+                constant,
+            } => {
+                write!(
+                    f,
+                    "{} {},0x{}",
+                    operation.immediate_mnemonic(),
+                    RegisterName(rd),
+                    HexTwo(constant as usize)
+                )
             }
             Instruction::Rotate { rotation, rd, rb } => {
-                write!(f, "{} {},{}", rotation.mnemonic(), RegisterName(rd), RegisterName(rb))
+                write!(
+                    f,
+                    "{} {},{}",
+                    rotation.mnemonic(),
+                    RegisterName(rd),
+                    RegisterName(rb)
+                )
             }
             Instruction::Flag { change } => write!(f, "{}", change.mnemonic()),
-            Instruction::Direct { transfer, rd, number } => {
-                write!(f, "{} {},0x{}", transfer.mnemonic(), RegisterName(rd), HexTwo(number as usize))
+            Instruction::Direct {
+                transfer,
+                rd,
+                number,
+            } => {
+                write!(
+                    f,
+                    "{} {},0x{}",
+                    transfer.mnemonic(),
+                    RegisterName(rd),
+                    HexTwo(number as usize)
+                )
             }
             Instruction::Indirect { transfer, rd, rb } => {
-                write!(f, "{}i {},{}", transfer.mnemonic(), RegisterName(rd), RegisterName(rb))
+                write!(
+                    f,
+                    "{}i {},{}",
+                    transfer.mnemonic(),
+                    RegisterName(rd),
+                    RegisterName(rb)
+                )
             }
-            Instruction::BranchIf { condition, offset } => write!(f, "b{} {offset}", condition.suffix()),
-            Instruction::CallIf { condition, offset } => write!(f, "call{} {offset}", condition.suffix()),
+            Instruction::BranchIf { condition, offset } => write!(
+                f,
+                "b{} {offset}",
+                condition.suffix()
+            ),
+            Instruction::CallIf { condition, offset } => write!(
+                f,
+                "call{} {offset}",
+                condition.suffix()
+            ),
             Instruction::Call { offset } => write!(f, "call {offset}"),
             Instruction::Return => write!(f, "ret"),
             Instruction::ReturnFromInterrupt => write!(f, "iret"),
