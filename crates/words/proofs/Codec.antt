@@ -6,6 +6,7 @@ use Prim.Native.Nat.{ℕ, _+_, _-_, _*_, _/_, _%_, _^_, _<_, _≤_}
 use native.Mathlib.Omega.{arith}
 use lib.Dec.{eqb, ltb}
 use lib.IntN.{ℤ, pos, negsuc}
+use Rattle.std.specs.declared.option.Option.the-variants.{None, Some}
 use Rattle.std.proofs.shelf.Tests.{cases-lt}
 use Rattle.std.proofs.shelf.Ways.{tells}
 use Rattle.words.specs.declared.codes.Condition.{Condition}
@@ -22,6 +23,7 @@ use Rattle.words.specs.declared.instruction.Instruction.{Instruction}
 use Rattle.words.specs.declared.instruction.Instruction.the-variants.{Register, Immediate, Rotate, Flag, Direct, Indirect, BranchIf, CallIf, Call, Return, ReturnFromInterrupt, Branch}
 use Rattle.words.specs.Bits.{bits, InOffsetRange, offsetField}
 use Rattle.words.specs.Codes.{operationCode, rotationCode, flagCode, transferCode, conditionCode}
+use Rattle.words.specs.Decoding.{operationAt, rotationAt, flagAt, transferAt, conditionAt, offsetAt, instructionOf}
 use Rattle.words.specs.Encoding.{Valid, wordOf}
 use Rattle.words.specs.Patterns.{Defined, RegisterPattern, ImmediatePattern, RotatePattern, FlagPattern, TransferPattern, ConditionalPattern, UnconditionalPattern, ReturnPattern}
 use Rattle.words.specs.Codec.{Writes, OneInstructionEach}
@@ -51,43 +53,25 @@ valid-defined Return h = grind arith
 valid-defined ReturnFromInterrupt h = grind arith
 valid-defined (Branch o) h = let l = offset-below o h in grind arith
 
-operationAt : ℕ → Operation
-operationAt n = cond (ltb n 5) (cond (ltb n 2) (cond (eqb n 0) Sub Subc) (cond (eqb n 2) Add (cond (eqb n 3) Addc Mov))) (cond (ltb n 7) (cond (eqb n 5) And Or) (cond (eqb n 7) Xor (cond (eqb n 8) Cmp Test)))
-
 operation-at : (n : ℕ) → n < 10 → operationCode (operationAt n) ≡ n
 unfolding operationAt
 operation-at n h = grind (arith, tells)
-
-rotationAt : ℕ → Rotation
-rotationAt n = cond (ltb n 2) (cond (eqb n 0) Ror Rol) (cond (eqb n 2) Rorc Rolc)
 
 rotation-at : (n : ℕ) → n < 4 → rotationCode (rotationAt n) ≡ n
 unfolding rotationAt
 rotation-at n h = grind (arith, tells)
 
-flagAt : ℕ → FlagChange
-flagAt n = cond (ltb n 3) (cond (eqb n 0) Clrc (cond (eqb n 1) Setc Clrz)) (cond (eqb n 3) Setz (cond (eqb n 4) Clri Seti))
-
 flag-at : (n : ℕ) → n < 6 → flagCode (flagAt n) ≡ n
 unfolding flagAt
 flag-at n h = grind (arith, tells)
-
-transferAt : ℕ → Transfer
-transferAt n = cond (ltb n 2) (cond (eqb n 0) Export Import) (cond (eqb n 4) Store Load)
 
 transfer-at : (n : ℕ) → n < 6 → (n / 2) % 2 ≡ 0 → transferCode (transferAt n) ≡ n
 unfolding transferAt
 transfer-at n h e = grind (arith, tells)
 
-conditionAt : ℕ → Condition
-conditionAt n = cond (ltb n 2) (cond (eqb n 0) Zero NotZero) (cond (eqb n 2) Carry NotCarry)
-
 condition-at : (n : ℕ) → n < 4 → conditionCode (conditionAt n) ≡ n
 unfolding conditionAt
 condition-at n h = grind (arith, tells)
-
-offsetAt : ℕ → ℤ
-offsetAt n = cond (ltb n 2048) (pos n) (negsuc (4095 - n))
 
 offset-at : (n : ℕ) → n < 4096 → InOffsetRange (offsetAt n) × (offsetField (offsetAt n) ≡ n)
 unfolding offsetAt
@@ -174,37 +158,36 @@ flag-below f = grind arith
 transfer-bit : (t : Transfer) → (transferCode t < 6) × ((transferCode t / 2) % 2 ≡ 0)
 transfer-bit t = grind arith
 
--- the instruction that a word can only come from
-read : ℕ → Instruction
-read w =
-    cond (ltb w 0x28000) (cond (eqb (bits 13 13 w) 1) (Immediate (operationAt (bits 17 14 w)) (bits 12 8 w) (bits 7 0 w)) (Register (operationAt (bits 17 14 w)) (bits 12 8 w) (bits 7 3 w)))
-    (cond (ltb w 0x2A000) (Rotate (rotationAt (bits 2 0 w)) (bits 12 8 w) (bits 7 3 w))
-    (cond (ltb w 0x2E000) (Flag (flagAt (bits 2 0 w)))
-    (cond (ltb w 0x30000) (cond (eqb (bits 1 1 w) 0) (Direct (transferAt (bits 2 0 w)) (bits 12 8 w) (bits 7 3 w)) (Indirect (transferAt (bits 2 0 w - 2)) (bits 12 8 w) (bits 7 3 w)))
-    (cond (ltb w 0x34000) (BranchIf (conditionAt (bits 13 12 w)) (offsetAt (bits 11 0 w)))
-    (cond (ltb w 0x38000) (CallIf (conditionAt (bits 13 12 w)) (offsetAt (bits 11 0 w)))
-    (cond (ltb w 0x39000) (Call (offsetAt (bits 11 0 w)))
-    (cond (ltb w 0x3A000) Return (cond (ltb w 0x3B000) ReturnFromInterrupt (Branch (offsetAt (bits 11 0 w)))))))))))
+computed-back : (i : Instruction) → Valid i → instructionOf (wordOf i) ≡ Some i
+unfolding instructionOf
+computed-back (Register o d b) h = let k = operation-below o in let e = operation-back o in grind (arith, tells)
+computed-back (Immediate o d c) h = let k = operation-below o in let e = operation-back o in grind (arith, tells)
+computed-back (Rotate r d b) h = let k = rotation-below r in let e = rotation-back r in grind (arith, tells)
+computed-back (Flag f) h = let k = flag-below f in let e = flag-back f in grind (arith, tells)
+computed-back (Direct t d n) h = let k = transfer-bit t in let e = transfer-back t in grind (arith, tells)
+computed-back (Indirect t d b) h = let k = transfer-bit t in let e = transfer-back t in grind (arith, tells)
+computed-back (BranchIf c o) h = let k = condition-below c in let e = condition-back c in let l = offset-below o h in let f = offset-back o h in grind (arith, tells)
+computed-back (CallIf c o) h = let k = condition-below c in let e = condition-back c in let l = offset-below o h in let f = offset-back o h in grind (arith, tells)
+computed-back (Call o) h = let l = offset-below o h in let f = offset-back o h in grind (arith, tells)
+computed-back Return h = refl
+computed-back ReturnFromInterrupt h = refl
+computed-back (Branch o) h = let l = offset-below o h in let f = offset-back o h in grind (arith, tells)
 
-read-back : (i : Instruction) → Valid i → read (wordOf i) ≡ i
-unfolding read
-read-back (Register o d b) h = let k = operation-below o in let e = operation-back o in grind (arith, tells)
-read-back (Immediate o d c) h = let k = operation-below o in let e = operation-back o in grind (arith, tells)
-read-back (Rotate r d b) h = let k = rotation-below r in let e = rotation-back r in grind (arith, tells)
-read-back (Flag f) h = let k = flag-below f in let e = flag-back f in grind (arith, tells)
-read-back (Direct t d n) h = let k = transfer-bit t in let e = transfer-back t in grind (arith, tells)
-read-back (Indirect t d b) h = let k = transfer-bit t in let e = transfer-back t in grind (arith, tells)
-read-back (BranchIf c o) h = let k = condition-below c in let e = condition-back c in let l = offset-below o h in let f = offset-back o h in grind (arith, tells)
-read-back (CallIf c o) h = let k = condition-below c in let e = condition-back c in let l = offset-below o h in let f = offset-back o h in grind (arith, tells)
-read-back (Call o) h = let l = offset-below o h in let f = offset-back o h in grind (arith, tells)
-read-back Return h = refl
-read-back ReturnFromInterrupt h = refl
-read-back (Branch o) h = let l = offset-below o h in let f = offset-back o h in grind (arith, tells)
+pub undefined-none : (w : ℕ) → (Defined w → ⊥) → instructionOf w ≡ None
+unfolding instructionOf
+undefined-none w u = grind (arith, tells)
+
+-- what writes a word is what the word computes to
+pub written-computed : (i : Instruction) (w : ℕ) → Writes i w → instructionOf w ≡ Some i
+written-computed i w h = subst (λ v. instructionOf v ≡ Some i) (h .1) (computed-back i (h .0))
+
+same-some : (i j : Instruction) → Some i ≡ Some j → i ≡ j
+same-some i j e = cc
 
 pub one-instruction-each : OneInstructionEach
 unfolding Written
 one-instruction-each = record {
   written = λ w d. ⊎-elim (written-register w (d .0)) (⊎-elim (written-immediate w (d .0)) (⊎-elim (written-rotate w (d .0)) (⊎-elim (written-flag w (d .0)) (⊎-elim (written-transfer w (d .0)) (⊎-elim (written-conditional w (d .0)) (⊎-elim (written-unconditional w (d .0)) (written-return w (d .0)))))))) (d .1);
   defined = λ i w h. subst Defined (h .1) (valid-defined i (h .0));
-  only = λ i j w h k. sym (read-back i (h .0)) ∙ ap read (h .1 ∙ sym (k .1)) ∙ read-back j (k .0);
+  only = λ i j w h k. same-some i j (sym (written-computed i w h) ∙ written-computed j w k);
 }

@@ -1,6 +1,8 @@
 -- What decoding and encoding answer, and the law that ties words to instructions. Assumes nothing.
 use mathlib.Core.Path.{_≡_}
 use Prim.Native.Nat.{ℕ}
+use Rattle.std.specs.declared.option.Option.{Option}
+use Rattle.std.specs.declared.option.Option.the-variants.{None, Some}
 use Rattle.std.specs.declared.result.Result.{Result}
 use Rattle.std.specs.declared.result.Result.the-variants.{Ok, Err}
 use Rattle.refusals.specs.declared.Refusal.{Refusal}
@@ -16,6 +18,11 @@ Writes i w = Valid i × (wordOf i ≡ w)
 abbrev pub Decodes : ℕ → Result Instruction Refusal → Type 0
 Decodes w (Ok i) = Defined w × Writes i w
 Decodes w (Err refusal) = (Defined w → ⊥) × (refusal ≡ UndefinedWord 0)
+
+-- the answer to a word, from what it computes to
+abbrev pub answerOf : Option Instruction → Result Instruction Refusal
+answerOf None = Err (UndefinedWord 0)
+answerOf (Some instruction) = Ok instruction
 
 -- a valid instruction gives the word that it writes, any other is refused
 abbrev pub Encodes : Instruction → Result ℕ Refusal → Type 0

@@ -1,8 +1,10 @@
-pub mod Codes
+pub mod Addresses
 pub mod Bits
-pub mod Encoding
-pub mod Patterns
 pub mod Codec
-pub mod Hex
-pub mod Text
+pub mod Codes
+pub mod Decoding
+pub mod Encoding
 pub mod Examples
+pub mod Hex
+pub mod Patterns
+pub mod Text

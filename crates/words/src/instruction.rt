@@ -1,5 +1,7 @@
 // Instructions, decoded from words and encoded as words.
-ghost use Rattle.words.specs.Codec.{Decodes, Encodes, OneInstructionEach};
+ghost use mathlib.Core.Path.{_≡_};
+ghost use Rattle.words.specs.Codec.{Decodes, Encodes, OneInstructionEach, answerOf};
+ghost use Rattle.words.specs.Decoding.{instructionOf};
 ghost use Rattle.words.specs.Examples.{WordExamples};
 use crate::codes::Condition;
 use crate::codes::ConditionDebug;
@@ -78,6 +80,7 @@ impl Instruction {
     // The instruction that a word stands for.
     pub fn decode(word: u32) -> Result<Instruction, Refusal>
         ensures answer { λ r. ⌜ Decodes word r ⌝ }
+        ensures computed { λ r. ⌜ r ≡ answerOf (instructionOf word) ⌝ }
         ensures law { λ _. ⌜ OneInstructionEach ⌝ }
         ensures examples { λ _. ⌜ WordExamples ⌝ }
     {
