@@ -1,12 +1,13 @@
 -- What taking one record off the front of a reader's bytes means. Assumes nothing.
 use mathlib.Core.Path.{_≡_}
 use mathlib.Core.List.{_++_}
+use mathlib.Core.Logic.{_⊎_}
 use Prim.Native.Nat.{ℕ, _+_, _^_, _<_}
 use lib.ListN.{length, getD}
 use Rattle.std.specs.declared.result.Result.{Result}
 use Rattle.std.specs.declared.result.Result.the-variants.{Ok, Err}
 use Rattle.refusals.specs.declared.Refusal.{Refusal}
-use Rattle.refusals.specs.declared.Refusal.the-variants.{UndefinedWord, UnknownKind, RecordCutOff, TooManyRecords, JobTooLong, FieldOutOfRange}
+use Rattle.refusals.specs.declared.Refusal.the-variants.{UnknownKind, RecordCutOff}
 use Rattle.jobs.specs.declared.reader.Reader.{Reader}
 use Rattle.jobs.specs.declared.record.Record.{Record}
 use Rattle.jobs.specs.Records.{written, Writable, Unknown, CutOff}
@@ -21,12 +22,8 @@ ReadyFor kind reader = Ready reader × (getD (reader .rest .now) 0 0 ≡ kind)
 
 -- why no record stands at the front
 abbrev pub Stuck : Reader → Refusal → Type 0
-Stuck reader (UndefinedWord pc) = ⊥
-Stuck reader (UnknownKind place) = Unknown (reader .rest .now) × (place ≡ reader .place)
-Stuck reader (RecordCutOff place) = CutOff (reader .rest .now) × (place ≡ reader .place)
-Stuck reader (TooManyRecords place) = ⊥
-Stuck reader JobTooLong = ⊥
-Stuck reader FieldOutOfRange = ⊥
+Stuck reader refusal =
+    (Unknown (reader .rest .now) × (refusal ≡ UnknownKind (reader .place))) ⊎ (CutOff (reader .rest .now) × (refusal ≡ RecordCutOff (reader .place)))
 
 -- a record is taken off whole; a refusal takes nothing
 abbrev pub Takes : Reader → Result Record Refusal → Reader → Type 0

@@ -132,18 +132,23 @@ fn write_listing(text: &mut String, job: &Job) -> fmt::Result
     Ok(())
 }
 
+fn listing_of(heap: Global, job: &Job) -> Result<String, AllocError>
+    ensures { λ r. ⌜ made r (λ text. Lists (accepted (now (job .entry) .pages) (vec-items (now (job .entry) .words)) (vec-items (now (job .entry) .ticks))) (string-bytes text)) ⌝ }
+{
+    let mut text = String::new(heap);
+    match write_listing(&mut text, job) {
+        Ok(()) => Ok(text),
+        Err(_) => Err(AllocError),
+    }
+}
+
 // The listing of the job that the bytes tell, or the line that refuses it.
 pub fn listing(heap: Global, bytes: &[u8]) -> Result<String, AllocError>
     ensures { λ r. ⌜ made r (λ text. (reading : Reading) × Means (now (bytes .entry)) reading × Lists reading (string-bytes text)) ⌝ }
 {
-    let mut text = String::new(heap);
-    let written = match Job::read(heap, bytes) {
-        Ok(job) => write_listing(&mut text, &job),
-        Err(JobError::Refused(refusal)) => writeln!(text, "{}", RefusedJob(refusal)),
-        Err(JobError::OutOfMemory) => Err(fmt::Error),
-    };
-    match written {
-        Ok(()) => Ok(text),
-        Err(_) => Err(AllocError),
+    match Job::read(heap, bytes) {
+        Ok(job) => listing_of(heap, &job),
+        Err(JobError::Refused(refusal)) => format!(heap, "{}\n", RefusedJob(refusal)),
+        Err(JobError::OutOfMemory) => Err(AllocError),
     }
 }
