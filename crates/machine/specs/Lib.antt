@@ -1,0 +1,11 @@
+pub mod Arithmetic
+pub mod Calls
+pub mod Cores
+pub mod Counting
+pub mod Examples
+pub mod Laws
+pub mod Moves
+pub mod Runs
+pub mod Stacks
+pub mod Steps
+pub mod Ticks
