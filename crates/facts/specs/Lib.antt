@@ -1,0 +1,9 @@
+pub mod Kinds
+pub mod Laws
+pub mod Marks
+pub mod Progress
+pub mod Spans
+pub mod Successors
+pub mod Tables
+pub mod Theorems
+pub mod Written
