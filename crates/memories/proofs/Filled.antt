@@ -1,9 +1,7 @@
 -- When two memories mean the same, and what a changed source pokes. Assumes nothing.
 use mathlib.Core.Path.{_≡_, refl}
-use mathlib.Core.Bool.{cond, _&&_}
-use Prim.Native.Nat.{ℕ, _%_, _^_, _<_, _≤_, min}
+use Prim.Native.Nat.{ℕ, _^_, _<_, min}
 use native.Mathlib.Omega.{arith}
-use lib.Dec.{eqb, ltb}
 use Rattle.std.proofs.shelf.Ways.{tells}
 use Rattle.memories.specs.Meaning.{Meaning, filled, poked}
 

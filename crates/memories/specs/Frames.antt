@@ -1,13 +1,12 @@
 -- What a memory holds beside its cells, which no call changes. Assumes nothing.
-use mathlib.Core.Path.{_≡_}
 use mathlib.Core.Bool.{cond}
 use mathlib.Core.List.{List}
 use Prim.Native.Nat.{ℕ, _+_, _*_, _^_}
 use lib.Dec.{ltb}
 use lib.ListN.{drop}
 use Rattle.memories.specs.declared.board.BoardMemory.{BoardMemory}
-use Rattle.memories.specs.Kinds.{joined, ofBytes}
-use Rattle.memories.specs.Meaning.{Meaning, Sound}
+use Rattle.memories.specs.Kinds.{ofBytes}
+use Rattle.memories.specs.Meaning.{Meaning}
 
 -- the bytes behind the last page
 abbrev pub tail : List ℕ → List ℕ
@@ -38,8 +37,3 @@ pub record JoinedFrame (A B : Type 0) : Type 0 where
   pub first : A
   pub second : B
   pub parts : Cut
-
--- what a joined memory means, with the cut, fixes what both parts mean
-abbrev pub PartsFixed : Type 0
-PartsFixed =
-    (a b a′ b′ : Meaning) → Sound a → Sound b → Sound a′ → Sound b′ → joined a b ≡ joined a′ b′ → cut a b ≡ cut a′ b′ → (a ≡ a′) × (b ≡ b′)

@@ -2,7 +2,8 @@ pub mod Calls
 pub mod Copies
 pub mod Frames
 pub mod Kinds
+pub mod Laws
 pub mod Lengths
 pub mod Meaning
-pub mod Soundness
 pub mod Piles
+pub mod Soundness
