@@ -10,7 +10,7 @@ abbrev pub sentence : Refusal → List ℕ
 sentence ImageLength = codes "the program has fewer than 2 or more than 4096 words"
 sentence NoSuchPage = codes "the memory has no such page"
 sentence TooManyTicks = codes "there are more than 65536 ticks"
-sentence (TickTooLarge place) = codes "tick " ++ (decimal place ++ codes " is not below 512")
+sentence (TickTooLarge place) = codes "the tick at place " ++ (decimal place ++ codes " is not below 512")
 sentence (PcOutside pc) = codes "address " ++ (decimal pc ++ codes " lies outside the program")
 sentence (UndefinedWord pc) = codes "the word at address " ++ (decimal pc ++ codes " is no instruction")
 sentence (NotInService pc) = codes "iret at address " ++ (decimal pc ++ codes " with no interrupt in service")

@@ -109,7 +109,10 @@ pub impl fmt::Display for Refusal as RefusalDisplay {
             ),
             Refusal::NoSuchPage => write!(f, "the memory has no such page"),
             Refusal::TooManyTicks => write!(f, "there are more than 65536 ticks"),
-            Refusal::TickTooLarge { place } => write!(f, "tick {place} is not below 512"),
+            Refusal::TickTooLarge { place } => write!(
+                f,
+                "the tick at place {place} is not below 512"
+            ),
             Refusal::PcOutside { pc } => write!(f, "address {pc} lies outside the program"),
             Refusal::UndefinedWord { pc } => write!(
                 f,

@@ -26,7 +26,7 @@ use Rattle.words.specs.Codes.{operationCode, rotationCode, flagCode, transferC
 use Rattle.words.specs.Decoding.{operationAt, rotationAt, flagAt, transferAt, conditionAt, offsetAt, instructionOf}
 use Rattle.words.specs.Encoding.{Valid, wordOf}
 use Rattle.words.specs.Patterns.{Defined, RegisterPattern, ImmediatePattern, RotatePattern, FlagPattern, TransferPattern, ConditionalPattern, UnconditionalPattern, ReturnPattern}
-use Rattle.words.specs.Codec.{Writes, OneInstructionEach}
+use Rattle.words.specs.Codec.{Writes, Decodes, answerOf, OneInstructionEach}
 
 operation-below : (o : Operation) → operationCode o < 10
 operation-below o = grind arith
@@ -184,10 +184,25 @@ written-computed i w h = subst (λ v. instructionOf v ≡ Some i) (h .1) (comput
 same-some : (i j : Instruction) → Some i ≡ Some j → i ≡ j
 same-some i j e = cc
 
+all-written : (w : ℕ) → Defined w → (i : Instruction) × Writes i w
+unfolding Written
+all-written = λ w d. ⊎-elim (written-register w (d .0)) (⊎-elim (written-immediate w (d .0)) (⊎-elim (written-rotate w (d .0)) (⊎-elim (written-flag w (d .0)) (⊎-elim (written-transfer w (d .0)) (⊎-elim (written-conditional w (d .0)) (⊎-elim (written-unconditional w (d .0)) (written-return w (d .0)))))))) (d .1)
+
+-- a word is defined or not
+decided : (w : ℕ) → Defined w ⊎ (Defined w → ⊥)
+decided w = grind arith
+
+decoded-by : (w : ℕ) → ((d : Defined w) → (i : Instruction) × Writes i w) → Decodes w (answerOf (instructionOf w))
+decoded-by w written = ⊎-elim
+    (λ d. let i = written d in rw (written-computed (i .0) w (i .1)) (d, i .1))
+    (λ u. rw (undefined-none w u) (u, refl))
+    (decided w)
+
 pub one-instruction-each : OneInstructionEach
 unfolding Written
 one-instruction-each = record {
-  written = λ w d. ⊎-elim (written-register w (d .0)) (⊎-elim (written-immediate w (d .0)) (⊎-elim (written-rotate w (d .0)) (⊎-elim (written-flag w (d .0)) (⊎-elim (written-transfer w (d .0)) (⊎-elim (written-conditional w (d .0)) (⊎-elim (written-unconditional w (d .0)) (written-return w (d .0)))))))) (d .1);
+  written = all-written;
+  decoded = λ w. decoded-by w (all-written w);
   defined = λ i w h. subst Defined (h .1) (valid-defined i (h .0));
   only = λ i j w h k. same-some i j (sym (written-computed i w h) ∙ written-computed j w k);
 }

@@ -8,6 +8,7 @@ use Rattle.std.specs.declared.result.Result.the-variants.{Ok, Err}
 use Rattle.refusals.specs.declared.Refusal.{Refusal}
 use Rattle.refusals.specs.declared.Refusal.the-variants.{UndefinedWord, FieldOutOfRange}
 use Rattle.words.specs.declared.instruction.Instruction.{Instruction}
+use Rattle.words.specs.Decoding.{instructionOf}
 use Rattle.words.specs.Encoding.{Valid, wordOf}
 use Rattle.words.specs.Patterns.{Defined}
 
@@ -33,4 +34,6 @@ Encodes i (Err refusal) = (Valid i → ⊥) × (refusal ≡ FieldOutOfRange)
 pub record OneInstructionEach : Type 0 where
   pub written : (w : ℕ) → Defined w → (i : Instruction) × Writes i w
   pub defined : (i : Instruction) (w : ℕ) → Writes i w → Defined w
+  -- and it is what the word computes to
+  pub decoded : (w : ℕ) → Decodes w (answerOf (instructionOf w))
   pub only : (i j : Instruction) (w : ℕ) → Writes i w → Writes j w → i ≡ j

@@ -2,7 +2,6 @@
 ghost use mathlib.Core.Path.{_≡_};
 ghost use Rattle.words.specs.Codec.{Decodes, Encodes, OneInstructionEach, answerOf};
 ghost use Rattle.words.specs.Decoding.{instructionOf};
-ghost use Rattle.words.specs.Examples.{WordExamples};
 use crate::codes::Condition;
 use crate::codes::ConditionDebug;
 use crate::codes::ConditionPartialEq;
@@ -82,7 +81,6 @@ impl Instruction {
         ensures answer { λ r. ⌜ Decodes word r ⌝ }
         ensures computed { λ r. ⌜ r ≡ answerOf (instructionOf word) ⌝ }
         ensures law { λ _. ⌜ OneInstructionEach ⌝ }
-        ensures examples { λ _. ⌜ WordExamples ⌝ }
     {
         match decoded(word) {
             Some(instruction) => Ok(instruction),

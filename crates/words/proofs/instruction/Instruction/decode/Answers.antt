@@ -1,8 +1,7 @@
--- The decision gives the answer; the law and the examples hold of the definitions.
+-- The decision gives the answer; the law holds of the definitions.
 use mathlib.Core.Path.{refl, sym, ap}
 use Rattle.words.specs.Codec.{answerOf}
 use Rattle.words.proofs.Codec.{one-instruction-each, undefined-none, written-computed}
-use Rattle.words.proofs.Examples.{examples-hold}
 use Rattle.words.proofs.instruction.Instruction.decode.Needs as need
 
 pub returns-in-Some : need.returns-in-Some
@@ -12,7 +11,6 @@ returns-in-Some c =
       answer = (one-instruction-each .defined _ _ writes, writes);
       computed = sym (ap answerOf (written-computed _ _ writes));
       law = one-instruction-each;
-      examples = examples-hold;
     }
 
 pub returns-in-None : need.returns-in-None
@@ -22,5 +20,4 @@ returns-in-None c =
       answer = (undefined, refl);
       computed = sym (ap answerOf (undefined-none _ undefined));
       law = one-instruction-each;
-      examples = examples-hold;
     }
