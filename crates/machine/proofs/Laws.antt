@@ -13,7 +13,6 @@ use Rattle.std.specs.declared.option.Option.the-variants.{None, Some}
 use Rattle.refusals.specs.declared.Refusal.{Refusal}
 use Rattle.memories.specs.Meaning.{Meaning, poked}
 use Rattle.machine.specs.Cores.{Core}
-use Rattle.machine.specs.Examples.{ArithmeticExamples}
 use Rattle.machine.specs.Laws.{MachineLaws, OneCell, OneRegister}
 use Rattle.machine.specs.Runs.{Ran, ran, ended, later, listOf}
 use Rattle.machine.specs.Steps.{Outcome, stopped, went, step}
@@ -89,6 +88,3 @@ machine-laws = record {
   transparent = transparent;
   paced = paced;
 }
-
-pub examples-hold : ArithmeticExamples
-examples-hold = record { add-200-56 = refl; subc-0-255 = refl; rorc-1 = refl }

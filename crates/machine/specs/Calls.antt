@@ -3,8 +3,9 @@
 --   Call        a call of the machine or of its memory
 --   does        what one call leaves; a refused one leaves all as it was
 --   performs    what a list of them leaves, one after another
---   Fits        the numbers of a call fit their types
---   Reached     the states that can be reached from a newly reset board, with the pokes so far, the newest first
+--   Fits        the page, offset and byte of a call fit their types
+--   Reached     the states that steps, resets and pokes reach from a newly reset board, with the pokes so far, the newest
+--               first. It takes steps at any tick, so no list of calls leads anywhere else
 use mathlib.Core.Path.{_≡_}
 use mathlib.Core.Bool.{Bool, cond, _&&_}
 use mathlib.Core.List.{List, [], _∷_}

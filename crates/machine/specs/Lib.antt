@@ -9,3 +9,4 @@ pub mod Runs
 pub mod Stacks
 pub mod Steps
 pub mod Ticks
+pub mod Views

@@ -15,6 +15,7 @@ use Rattle.std.specs.declared.result.Result.{Result}
 use Rattle.std.specs.declared.result.Result.the-variants.{Ok, Err}
 use Rattle.refusals.specs.declared.Refusal.{Refusal}
 use Rattle.refusals.specs.declared.Refusal.the-variants.{ImageLength, TooManyTicks, TickTooLarge}
+use Rattle.refusals.specs.Numbers.{numberOf}
 use Rattle.memories.specs.Meaning.{Meaning}
 use Rattle.machine.specs.declared.report.RunReport.{RunReport}
 use Rattle.machine.specs.Cores.{Core}
@@ -56,6 +57,11 @@ ran image room (tick ∷ ticks) core memory = elim (step image (ltb 0 room) tick
   | stopped refusal ↦ ended core memory (Some refusal)
   | went core′ memory′ cycles export ↦ later 1 cycles (listOf export) (ran image (room - length (listOf export)) ticks core′ memory′)
 ]
+
+-- the number of what stopped a run: 0 where every tick was used
+abbrev pub stopNumber : Option Refusal → ℕ
+stopNumber None = 0
+stopNumber (Some refusal) = numberOf refusal
 
 -- 2 to 4,096 words
 abbrev pub fitsImage : ℕ → Bool

@@ -23,3 +23,16 @@ pub struct Board {
     stack: Stack,
     ghost all: { length registers ≡ 32 },
 }
+
+// What a board shows to whoever tries a program on it.
+#[derive(Clone, Copy)]
+pub struct BoardView {
+    pub registers: [u8; 32],
+    pub carry: bool,
+    pub zero: bool,
+    pub enabled: bool,
+    pub in_service: bool,
+    pub pc: usize,
+    // How many entries the call stack holds.
+    pub depth: usize,
+}

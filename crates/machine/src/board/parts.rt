@@ -1,9 +1,10 @@
 // The board's parts: reading and changing one of them.
 ghost use mathlib.Core.Path.{_≡_};
 ghost use Prim.Native.Nat.{_<_};
-ghost use lib.ListN.{length};
+ghost use Rattle.machine.specs.Views.{Views};
 ghost use Rattle.machine.specs.Cores.{coreOf, fresh, register, pageOf, withRegister, withFlags, at};
 use crate::board::Board;
+use crate::board::BoardView;
 use crate::stack::Stack;
 
 impl Board {
@@ -28,35 +29,19 @@ impl Board {
         *self = Board::new();
     }
 
-    pub fn registers(&self) -> [u8; 32]
-        ensures { λ r. ⌜ r ≡ coreOf (now (self .entry)) .registers ⌝ }
+    // What the board shows.
+    pub fn view(&self) -> BoardView
+        ensures { λ r. ⌜ Views (coreOf (now (self .entry))) r ⌝ }
     {
-        self.registers
-    }
-
-    pub fn carry(&self) -> bool
-        ensures { λ r. ⌜ r ≡ coreOf (now (self .entry)) .carry ⌝ }
-    {
-        self.carry
-    }
-
-    pub fn zero(&self) -> bool
-        ensures { λ r. ⌜ r ≡ coreOf (now (self .entry)) .zero ⌝ }
-    {
-        self.zero
-    }
-
-    pub fn pc(&self) -> usize
-        ensures { λ r. ⌜ r ≡ coreOf (now (self .entry)) .pc ⌝ }
-    {
-        self.pc
-    }
-
-    // How many entries the call stack holds.
-    pub fn stack_depth(&self) -> usize
-        ensures { λ r. ⌜ r ≡ length (coreOf (now (self .entry)) .stack) ⌝ }
-    {
-        self.stack.depth()
+        BoardView {
+            registers: self.registers,
+            carry: self.carry,
+            zero: self.zero,
+            enabled: self.enabled,
+            in_service: self.in_service,
+            pc: self.pc,
+            depth: self.stack.depth(),
+        }
     }
 
     pub(crate) fn register(&self, number: u8) -> u8

@@ -6,9 +6,9 @@ ghost use Rattle.std.specs.declared.option.Option.the-variants.{None, Some};
 ghost use Rattle.std.specs.Options.{Cases as BySome};
 ghost use Rattle.machine.specs.Cores.{coreOf};
 ghost use Rattle.machine.specs.Counting.{Holds, Counts};
-ghost use Rattle.machine.specs.Examples.{ArithmeticExamples};
+ghost use Rattle.machine.specs.Examples.{WorkedExamples};
 ghost use Rattle.machine.specs.Laws.{MachineLaws};
-ghost use Rattle.machine.specs.Runs.{ran, hindered, firstLarge, lone, Reports, Runs};
+ghost use Rattle.machine.specs.Runs.{ran, stopNumber, hindered, firstLarge, lone, Reports, Runs};
 ghost use Rattle.machine.specs.Steps.{Steps};
 use crate::board::Board;
 use crate::report::RunReport;
@@ -47,6 +47,16 @@ fn hindrance(image: &[u32], ticks: &[u16]) -> Option<Refusal>
 }
 
 impl RunReport {
+    // The number of what stopped the run: 0 where every tick was used.
+    pub fn stop_number(&self) -> u8
+        ensures { λ r. ⌜ r ≡ stopNumber (now (self .entry) .stop) ⌝ }
+    {
+        match self.stop {
+            None => 0,
+            Some(refusal) => refusal.number(),
+        }
+    }
+
     // One step more, its export into the given list.
     fn count(&mut self, stepped: Stepped, exports: &mut [u32])
         requires { ⌜ (now self .ticks < 65536) × (now self .cycles ≤ 196608) × (stepped .cycles ≤ 3) × Holds (stepped .export) (now self .exports) (now exports) ⌝ }
@@ -122,7 +132,7 @@ impl Board {
         ensures run { λ r. ⌜ Runs (now (image .entry)) (now (ticks .entry)) (coreOf (now (self .entry))) (meaning (now (memory .entry))) (now (exports .entry)) r (coreOf (now (self .exit))) (meaning (now (memory .exit))) (now (exports .exit)) ⌝ }
         ensures rest { λ _. ⌜ frame (now (memory .exit)) ≡ frame (now (memory .entry)) ⌝ }
         ensures laws { λ _. ⌜ MachineLaws ⌝ }
-        ensures examples { λ _. ⌜ ArithmeticExamples ⌝ }
+        ensures examples { λ _. ⌜ WorkedExamples ⌝ }
     {
         self.run_or_refuse(image, ticks, memory, exports)
     }

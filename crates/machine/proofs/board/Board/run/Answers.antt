@@ -1,4 +1,5 @@
-use Rattle.machine.proofs.Laws.{machine-laws, examples-hold}
+use Rattle.machine.proofs.Examples.{examples-hold}
+use Rattle.machine.proofs.Laws.{machine-laws}
 use Rattle.machine.proofs.board.Board.run.Needs as need
 
 pub returns : need.returns
