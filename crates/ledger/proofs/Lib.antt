@@ -1,0 +1,9 @@
+pub mod Decoded
+pub mod Effects
+pub mod Examples
+pub mod Executing
+pub mod Keeping
+pub mod Moving
+pub mod Performing
+pub mod Places
+pub mod Reaching

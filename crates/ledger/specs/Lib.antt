@@ -1,0 +1,9 @@
+pub mod Causes
+pub mod Examples
+pub mod Interrupts
+pub mod Ledgers
+pub mod Needs
+pub mod Pages
+pub mod Pokes
+pub mod Rows
+pub mod Safety
