@@ -48,20 +48,22 @@ pub extern "C" fn bench_run(rounds: u32) -> u64 {
     cycles
 }
 
-// The word at an address of an image of ordinary shape: forward code, a short loop in every sixteen words, and a call
-// in every sixteen to one of the routines in the last quarter.
+// The word at an address of an image of ordinary shape: forward code around routines in its middle quarter, a short loop
+// and a call of a routine in every sixteen words.
 fn ordinary_word(address: usize, words: usize) -> u32
     requires { ⌜ (address < words) × (words ≤ 4096) ⌝ }
 {
-    let routines = words - words / 4;
+    let first = words * 3 / 8;
+    let behind = words * 5 / 8;
+    let inside = first <= address && address < behind;
     match address % 16 {
         _ if address == 0 => 0x3A000,
-        15 if address >= routines => 0x39000,
-        _ if address + 1 == words => 0x39000,
-        _ if address + 1 == routines => 0x3B000,
+        _ if address + 1 == words => 0x3B000,
+        _ if address + 1 == first => 0x3B000 + (behind - address) as u32 % 2048,
+        15 if inside => 0x39000,
         3 => 0x12E03,
         6 => 0x31FFE,
-        9 if address + 16 < routines => 0x38000 + (routines - address).min(2000) as u32,
+        9 if !inside => 0x38000 + ((first + behind) / 2 + 4096 - address) as u32 % 4096,
         _ => 0x08110,
     }
 }

@@ -126,6 +126,46 @@ fn no_room_for_any_export() -> Result<(), Fail> {
     )
 }
 
+// What stops a step of an image, after another image was run.
+fn stop_after(first: &[u32], ticks: &[u16], second: &[u32]) -> Result<Option<Refusal>, Refusal> {
+    let mut board = Board::new();
+    let mut memory = OnChip::new();
+    board.run(first, ticks, &mut memory, &mut [])?;
+    Ok(board.run(second, &[0x100], &mut memory, &mut [])?.stop)
+}
+
+#[test]
+fn faults_that_take_two_images() -> Result<(), Fail> {
+    // A full stack and a return address outside: the address comes first.
+    check_eq(
+        stop_after(&[0x3A000, 0x38000, 0x3B000], &[0; 16], &[0x3A000, 0x38000])?,
+        Some(Refusal::NextOutside { pc: 1 }),
+    )?;
+    // A popped address that only the other image has.
+    check_eq(
+        stop_after(
+            &[0x3A000, 0x3B003, 0, 0, 0x38FFD, 0x3B000],
+            &[0; 2],
+            &[0x3A000, 0x39000],
+        )?,
+        Some(Refusal::NextOutside { pc: 1 }),
+    )?;
+    // An interrupt that finds the stack full.
+    check_eq(
+        stop_after(
+            &[0x3A000, 0x2C005, 0x38000, 0x3B000],
+            &[0; 17],
+            &[0x3A000, 0x2C005, 0x38000, 0x3B000],
+        )?,
+        Some(Refusal::StackFull { pc: 2 }),
+    )?;
+    // A word that is not below 2^18.
+    check_eq(
+        stop_after(&[0x3A000, 0x40000], &[], &[0x3A000, 0x40000])?,
+        Some(Refusal::UndefinedWord { pc: 1 }),
+    )
+}
+
 // A board that another image has led further than this one has words; an interrupt that is due changes nothing.
 #[test]
 fn pc_outside_the_image() -> Result<(), Fail> {
@@ -137,7 +177,7 @@ fn pc_outside_the_image() -> Result<(), Fail> {
         &mut memory,
         &mut [],
     )?;
-    check_eq(board.pc(), 3)?;
+    check_eq(board.view().pc, 3)?;
     let stopped = board.step(&[0x3A000, 0x10000], 0x100, &mut memory);
     check_eq(stopped.is_err(), true)?;
     check_eq(

@@ -54,13 +54,13 @@ fn trace_of_the_guide() -> Result<(), Fail> {
     let mut memory = OnChip::new();
     for (register, value) in WRITTEN {
         check_eq(board.step(&TRACE, 0, &mut memory)?.cycles, 2)?;
-        check_eq(board.registers().get(register).copied(), Some(value))?;
+        check_eq(board.view().registers.get(register).copied(), Some(value))?;
     }
-    check_eq(board.pc(), 17)
+    check_eq(board.view().pc, 17)
 }
 
 // A word over R01 and R02, their values, whether the carry is set before; then R01, carry and zero after.
-const EDGES: [(u32, u8, u8, bool, u8, bool, bool); 28] = [
+const EDGES: [(u32, u8, u8, bool, u8, bool, bool); 35] = [
     (0x08110, 200, 56, false, 0, true, true),
     (0x08110, 255, 0, true, 255, false, false),
     (0x0C110, 255, 0, true, 0, true, true),
@@ -89,6 +89,13 @@ const EDGES: [(u32, u8, u8, bool, u8, bool, bool); 28] = [
     (0x28113, 9, 0x7F, true, 0xFF, false, false),
     (0x28113, 9, 0xFF, true, 0xFF, true, false),
     (0x2C000, 9, 2, true, 9, false, false),
+    (0x02101, 0, 0, false, 255, true, false),
+    (0x1610F, 0xF0, 0, true, 0, true, true),
+    (0x1A10F, 0xF0, 0, false, 0xFF, false, false),
+    (0x26101, 0xFE, 0, true, 0xFE, true, true),
+    (0x2C001, 9, 2, false, 9, true, false),
+    (0x2C003, 9, 2, false, 9, false, true),
+    (0x2C005, 9, 2, false, 9, false, false),
 ];
 
 #[test]
@@ -110,9 +117,9 @@ fn instructions_at_their_edges() -> Result<(), Fail> {
         let mut memory = OnChip::new();
         let report = board.run(&image, &[0; 5], &mut memory, &mut [])?;
         check_eq(report.cycles, 10)?;
-        check_eq(board.registers().get(1).copied(), Some(result))?;
-        check_eq(board.carry(), carry_after)?;
-        check_eq(board.zero(), zero_after)?;
+        check_eq(board.view().registers.get(1).copied(), Some(result))?;
+        check_eq(board.view().carry, carry_after)?;
+        check_eq(board.view().zero, zero_after)?;
     }
     Ok(())
 }
@@ -140,6 +147,81 @@ fn transfers_use_the_page_before_they_write() -> Result<(), Fail> {
     check_eq(report.stop, None)
 }
 
+// A conditional word two ahead, the carry, the zero flag, whether it is taken, and the entries that it pushes.
+const CONDITIONS: [(u32, u32, u32, bool, usize); 16] = [
+    (0x30002, 0x2C000, 0x2C003, true, 0),
+    (0x30002, 0x2C001, 0x2C002, false, 0),
+    (0x31002, 0x2C000, 0x2C002, true, 0),
+    (0x31002, 0x2C000, 0x2C003, false, 0),
+    (0x32002, 0x2C001, 0x2C002, true, 0),
+    (0x32002, 0x2C000, 0x2C003, false, 0),
+    (0x33002, 0x2C000, 0x2C003, true, 0),
+    (0x33002, 0x2C001, 0x2C002, false, 0),
+    (0x34002, 0x2C000, 0x2C003, true, 1),
+    (0x34002, 0x2C001, 0x2C002, false, 0),
+    (0x35002, 0x2C000, 0x2C002, true, 1),
+    (0x35002, 0x2C000, 0x2C003, false, 0),
+    (0x36002, 0x2C001, 0x2C002, true, 1),
+    (0x36002, 0x2C000, 0x2C003, false, 0),
+    (0x37002, 0x2C000, 0x2C003, true, 1),
+    (0x37002, 0x2C001, 0x2C002, false, 0),
+];
+
+#[test]
+fn conditional_words() -> Result<(), Fail> {
+    for (word, carry, zero, taken, depth) in CONDITIONS {
+        let image = [0x3A000, carry, zero, word, 0x3B000, 0x3B000];
+        let mut board = Board::new();
+        let mut memory = OnChip::new();
+        board.run(&image, &[0; 3], &mut memory, &mut [])?;
+        check_eq(board.view().pc, if taken { 5 } else { 4 })?;
+        check_eq(board.view().depth, depth)?;
+    }
+    Ok(())
+}
+
+// import R01,0; movi R02,5; sspi R01,R02; lsp R03,5; exporti R03,R02; importi R04,R02.
+const PORTS: [u32; 8] = [
+    0x3A000,
+    0x2E101,
+    0x12205,
+    0x2E116,
+    0x2E32D,
+    0x2E312,
+    0x2E413,
+    0x3B000,
+];
+
+#[test]
+fn ports_and_cells() -> Result<(), Fail> {
+    let mut board = Board::new();
+    let mut memory = OnChip::new();
+    let mut exports = [0; 1];
+    let report = board.run(&PORTS, &[0xAB, 0, 0, 0, 0, 0x17], &mut memory, &mut exports)?;
+    check_eq(report.cycles, 17)?;
+    check_eq(exports, [5 * 256 + 0xAB])?;
+    check_eq(board.view().registers.get(4).copied(), Some(0x17))
+}
+
+// setc; call 2; b 0; then clrc; ret.
+const CALLED: [u32; 6] = [0x3A000, 0x2C001, 0x38002, 0x3B000, 0x2C000, 0x39000];
+
+// In the handler clrc and iret; in the main program seti; setc; b 0.
+const HANDLED: [u32; 6] = [0x3B004, 0x2C005, 0x2C001, 0x3B000, 0x2C000, 0x3A000];
+
+#[test]
+fn ret_drops_the_flags_and_iret_takes_them_back() -> Result<(), Fail> {
+    let mut board = Board::new();
+    let mut memory = OnChip::new();
+    board.run(&CALLED, &[0; 4], &mut memory, &mut [])?;
+    check_eq(board.view().pc, 3)?;
+    check_eq(board.view().carry, false)?;
+    board.reset();
+    board.run(&HANDLED, &[0, 0, 0x100, 0, 0, 0], &mut memory, &mut [])?;
+    check_eq(board.view().pc, 3)?;
+    check_eq(board.view().carry, true)
+}
+
 // Enables interrupts, sets the carry and goes round; the handler only returns.
 const INTERRUPTED: [u32; 4] = [0x3A000, 0x2C005, 0x2C001, 0x3B000];
 
@@ -148,12 +230,12 @@ fn an_interrupt_comes_and_goes() -> Result<(), Fail> {
     let mut board = Board::new();
     let mut memory = OnChip::new();
     board.run(&INTERRUPTED, &[0x100, 0, 0x100], &mut memory, &mut [])?;
-    check_eq(board.pc(), 0)?;
-    check_eq(board.stack_depth(), 1)?;
+    check_eq(board.view().pc, 0)?;
+    check_eq(board.view().depth, 1)?;
     board.step(&INTERRUPTED, 0x100, &mut memory)?;
-    check_eq(board.pc(), 3)?;
-    check_eq(board.stack_depth(), 0)?;
-    check_eq(board.carry(), true)
+    check_eq(board.view().pc, 3)?;
+    check_eq(board.view().depth, 0)?;
+    check_eq(board.view().carry, true)
 }
 
 #[test]
@@ -162,6 +244,6 @@ fn reset_begins_anew() -> Result<(), Fail> {
     let mut memory = OnChip::new();
     board.run(&PAGES, &[0; 4], &mut memory, &mut [])?;
     board.reset();
-    check_eq(board.registers(), [0; 32])?;
-    check_eq(board.pc(), 1)
+    check_eq(board.view().registers, [0; 32])?;
+    check_eq(board.view().pc, 1)
 }
