@@ -1,4 +1,6 @@
 // What the benchmark under bench/ calls from C: fixed work over the library, and a checksum of its answers.
+#![tactic(auto)]
+
 ghost use Rattle.std.specs.Prelude.{◌<◌, ◌≤◌, length};
 
 use facts::engine::smallest;

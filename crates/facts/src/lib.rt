@@ -1,4 +1,6 @@
 // Dataflow analysis of program images: successors, kinds of fact, and the smallest facts that flow from a start.
+#![tactic(auto)]
+
 pub mod engine;
 pub mod fact;
 pub mod interval;

@@ -1,4 +1,5 @@
 // The public library: every call, type and named impl that a user may rely on. What is not here is not public.
+#![tactic(auto)]
 
 // How a call says no.
 pub use refusals::Refusal;

@@ -1,4 +1,6 @@
 // Reads a job from standard input, carries it out and prints what it comes to; the reasons go to standard error.
+#![tactic(auto)]
+
 use huigasto::{Reasons, outcome};
 use std::io::Read;
 

@@ -1,4 +1,6 @@
 // Reads a job from standard input, inspects its program and prints the ledger as a table for spreadsheets.
+#![tactic(auto)]
+
 use anyhow::anyhow;
 use huigasto::{JobError, job_table};
 use std::io::Read;

@@ -1,4 +1,6 @@
 // Reads a job from standard input and prints the listing of its program.
+#![tactic(auto)]
+
 use huigasto::listing;
 use std::io::Read;
 

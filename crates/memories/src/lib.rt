@@ -1,4 +1,6 @@
 // Memories: pages of 256 cells, reached by three calls whatever holds the bytes.
+#![tactic(auto)]
+
 pub mod board;
 pub mod copying;
 pub mod joined;

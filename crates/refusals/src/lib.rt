@@ -1,4 +1,6 @@
 // Every way in which a call says no: its number, the value that it returns, and its text.
+#![tactic(auto)]
+
 ghost use Rattle.std.specs.Prelude.{◌≡◌, Some};
 ghost use Rattle.refusals.specs.Numbers.{number_of, value_of};
 ghost use Rattle.refusals.specs.Sentences.{sentence};

@@ -1,4 +1,6 @@
 // Reads jobs with what must be said of each from standard input, and compares that with what the library says.
+#![tactic(auto)]
+
 mod hex;
 mod telling;
 

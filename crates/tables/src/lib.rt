@@ -1,3 +1,5 @@
 // The ledger of an image as a table for spreadsheets.
+#![tactic(auto)]
+
 pub mod table;
 pub mod tabling;

@@ -1,4 +1,6 @@
 // Tests of the library and of the layers below it, against tables and figures worked out from the rules.
+#![tactic(auto)]
+
 #[cfg(test)]
 mod codec;
 #[cfg(test)]

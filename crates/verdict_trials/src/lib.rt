@@ -1,4 +1,6 @@
 // Tests of inspection, against verdicts and rows worked out by hand from the rules.
+#![tactic(auto)]
+
 #[cfg(test)]
 mod asking;
 #[cfg(test)]
