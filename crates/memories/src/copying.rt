@@ -13,8 +13,8 @@ pub struct Cell {
 
 // Copies the byte of one cell to another.
 pub fn copy_cell<M: Memory>(memory: &mut M, source: Cell, target: Cell) -> Result<(), Refusal>
-    ensures cells { Copies (meaning memory.old) source target result (meaning memory.new) }
-    ensures rest { frame memory.new ≡ frame memory.old }
+    ensures cells { Copies (M.meaning memory.old) source target result (M.meaning memory.new) }
+    ensures rest { M.frame memory.new ≡ M.frame memory.old }
 {
     let byte = memory.peek(source.page, source.offset)?;
     memory.poke(target.page, target.offset, byte)

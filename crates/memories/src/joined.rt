@@ -16,7 +16,7 @@ pub struct Joined<A, B> {
 impl<A: Memory, B> Joined<A, B> {
     // The page of the second that a page of the whole is, unless it is one of the first.
     fn page_of_second(&self, page: u16) -> Option<u16>
-        ensures { MatchOption result (page < (meaning self.now.first).pages) (λ behind. (meaning self.now.first).pages + behind ≡ page) }
+        ensures { MatchOption result (page < (A.meaning self.now.first).pages) (λ behind. (A.meaning self.now.first).pages + behind ≡ page) }
     {
         let boundary = self.first.page_count();
         let page = u32::from(page);

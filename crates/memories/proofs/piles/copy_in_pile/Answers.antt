@@ -5,7 +5,7 @@ use Rattle.memories.proofs.piles.copy_in_pile.Goals as goal
 
 pub returns : goal.returns
 returns c = record {
-  cells = c.copy-cell.ensures.cells;
-  rest = c.copy-cell.ensures.rest;
+  cells = c.copy_cell.ensures.cells;
+  rest = c.copy_cell.ensures.rest;
   laws = record { cells = cell_laws; joins = joined_laws; whole = whole_pages };
 }

@@ -2,4 +2,4 @@ use Rattle.words.proofs.Codec.{decided_computed}
 use Rattle.words.proofs.decoding.instruction_of.Goals as goal
 
 pub returns : goal.returns
-returns g c = decided_computed c.args.word c.decoded.result c.decoded.ensures
+returns c = decided_computed c.args.word c.decoded.result c.decoded.ensures
