@@ -21,7 +21,7 @@ pub fn fill<T: Copy>(list: &mut [T], value: T)
 fn raise<F: Fact>(table: &mut [F], dirty: &mut [bool], to: Option<usize>, fact: F) -> bool
     requires inside { AddressBelow (length table.old) to }
     requires level { length dirty.old ≡ length table.old }
-    ensures { Raises kind (CoversAt kind to fact) table.old dirty.old table.new dirty.new result }
+    ensures { Raises F.kind (CoversAt F.kind to fact) table.old dirty.old table.new dirty.new result }
 {
     let Some(to) = to else {
         return false;
@@ -46,7 +46,7 @@ fn raise_all<F: Fact>(
 ) -> bool
     requires inside { SuccessorsBelow (length table.old) to }
     requires level { length dirty.old ≡ length table.old }
-    ensures { Raises kind (Receives kind to past enter resume) table.old dirty.old table.new dirty.new result }
+    ensures { Raises F.kind (Receives F.kind to past enter resume) table.old dirty.old table.new dirty.new result }
 {
     let next = raise(table, dirty, to.next, past);
     let target = raise(table, dirty, to.target, past);
@@ -59,7 +59,7 @@ fn raise_all<F: Fact>(
 fn spread<F: Fact>(image: &[u32], table: &mut [F], dirty: &mut [bool], at: usize, total: F) -> bool
     requires level { Level image.now table.old dirty.old }
     requires inside { at < length image.now }
-    ensures { Spreads kind image.now total at table.old dirty.old table.new dirty.new result }
+    ensures { Spreads F.kind image.now total at table.old dirty.old table.new dirty.new result }
 {
     match Instruction::decode(image[at]) {
         Ok(instruction) => {
@@ -82,8 +82,8 @@ fn spread<F: Fact>(image: &[u32], table: &mut [F], dirty: &mut [bool], at: usize
 fn visit<F: Fact>(image: &[u32], table: &mut [F], dirty: &mut [bool], at: usize, total: F) -> bool
     requires level { Level image.now table.old dirty.old }
     requires inside { at < length image.now }
-    requires settled { Settled kind image.now total table.old dirty.old }
-    ensures visits { Visits kind image.now total table.old dirty.old table.new dirty.new result }
+    requires settled { Settled F.kind image.now total table.old dirty.old }
+    ensures visits { Visits F.kind image.now total table.old dirty.old table.new dirty.new result }
     ensures quiet { result ≡ false → dirty.new ≡ slice_set dirty.old at false }
 {
     if !dirty[at] {
@@ -96,8 +96,8 @@ fn visit<F: Fact>(image: &[u32], table: &mut [F], dirty: &mut [bool], at: usize,
 // Visits the addresses once, upwards.
 fn round<F: Fact>(image: &[u32], table: &mut [F], dirty: &mut [bool], total: F) -> bool
     requires level { Level image.now table.old dirty.old }
-    requires settled { Settled kind image.now total table.old dirty.old }
-    ensures visits { Visits kind image.now total table.old dirty.old table.new dirty.new result }
+    requires settled { Settled F.kind image.now total table.old dirty.old }
+    ensures visits { Visits F.kind image.now total table.old dirty.old table.new dirty.new result }
     ensures quiet { result ≡ false → NoneBelow (length image.now) dirty.new }
 {
     let mut changed = false;
@@ -110,8 +110,8 @@ fn round<F: Fact>(image: &[u32], table: &mut [F], dirty: &mut [bool], total: F) 
 // Visits the addresses once, downwards, since facts that flow back would take a round for each step.
 fn round_back<F: Fact>(image: &[u32], table: &mut [F], dirty: &mut [bool], total: F) -> bool
     requires level { Level image.now table.old dirty.old }
-    requires settled { Settled kind image.now total table.old dirty.old }
-    ensures { Visits kind image.now total table.old dirty.old table.new dirty.new result }
+    requires settled { Settled F.kind image.now total table.old dirty.old }
+    ensures { Visits F.kind image.now total table.old dirty.old table.new dirty.new result }
 {
     let mut grew = false;
     for at in (0..image.len()).rev() {
@@ -123,7 +123,7 @@ fn round_back<F: Fact>(image: &[u32], table: &mut [F], dirty: &mut [bool], total
 // The join of the facts at the named words.
 pub fn summary<F: Fact>(image: &[u32], table: &[F]) -> F
     requires { length image.now ≤ length table.now }
-    ensures { result ≡ summary kind image.now table.now }
+    ensures { result ≡ summary F.kind image.now table.now }
 {
     let mut joined = F::bottom();
     for at in (0..image.len()).rev() {
@@ -137,8 +137,8 @@ pub fn summary<F: Fact>(image: &[u32], table: &[F]) -> F
 // Rounds until nothing changes. Then the summary is taken anew, and where it grew every fact is carried on again.
 fn settle<F: Fact>(image: &[u32], table: &mut [F], dirty: &mut [bool]) -> F
     requires level { Level image.now table.old dirty.old }
-    requires settled { Settled kind image.now kind.bottom table.old dirty.old }
-    ensures { Settles kind image.now table.old table.new result }
+    requires settled { Settled F.kind image.now F.kind.bottom table.old dirty.old }
+    ensures { Settles F.kind image.now table.old table.new result }
 {
     let mut total = F::bottom();
     loop {
@@ -158,7 +158,7 @@ fn settle<F: Fact>(image: &[u32], table: &mut [F], dirty: &mut [bool]) -> F
 // Clears the table but for the given fact at the start, if that lies in the image.
 fn begin<F: Fact>(image: &[u32], table: &mut [F], dirty: &mut [bool], start: usize, given: F)
     requires { Level image.now table.old dirty.old }
-    ensures { Begins kind image.now start given table.new dirty.new }
+    ensures { Begins F.kind image.now start given table.new dirty.new }
 {
     fill(table, F::bottom());
     if start < image.len() {
@@ -169,8 +169,8 @@ fn begin<F: Fact>(image: &[u32], table: &mut [F], dirty: &mut [bool], start: usi
 // The method over a table and flags that are as long as the image.
 fn flow<F: Fact>(image: &[u32], table: &mut [F], dirty: &mut [bool], start: usize, given: F) -> F
     requires { Level image.now table.old dirty.old }
-    ensures smallest { Smallest kind image.now start given table.new }
-    ensures value { result ≡ summary kind image.now table.new }
+    ensures smallest { Smallest F.kind image.now start given table.new }
+    ensures value { result ≡ summary F.kind image.now table.new }
 {
     begin(image, table, dirty, start, given);
     settle(image, table, dirty)
@@ -180,10 +180,10 @@ fn flow<F: Fact>(image: &[u32], table: &mut [F], dirty: &mut [bool], start: usiz
 pub fn smallest<F: Fact>(image: &[u32], table: &mut [F], start: usize, given: F) -> F
     requires short { length image.now ≤ 4096 }
     requires long { length image.now ≤ length table.old }
-    ensures smallest { Smallest kind image.now start given table.new }
-    ensures value { result ≡ summary kind image.now table.new }
+    ensures smallest { Smallest F.kind image.now start given table.new }
+    ensures value { result ≡ summary F.kind image.now table.new }
     ensures rest { drop (length image.now) table.new ≡ drop (length image.now) table.old }
-    ensures laws { SmallestLaws kind }
+    ensures laws { SmallestLaws F.kind }
 {
     let mut dirty = [false; 4096];
     let words = image.len();

@@ -55,8 +55,8 @@ impl Board {
         memory: &mut M,
     ) -> Result<Stepped, Refusal>
         requires { (self.old.pc < 4096) × (rd < 32) }
-        ensures step { Steps (transferred Store words false 0 rd offset (core_of self.old) (meaning memory.old)) (core_of self.old) (meaning memory.old) result (core_of self.new) (meaning memory.new) }
-        ensures rest { frame memory.new ≡ frame memory.old }
+        ensures step { Steps (transferred Store words false 0 rd offset (core_of self.old) (M.meaning memory.old)) (core_of self.old) (M.meaning memory.old) result (core_of self.new) (M.meaning memory.new) }
+        ensures rest { M.frame memory.new ≡ M.frame memory.old }
     {
         let next = self.after(words)?;
         match memory.poke(self.page(), offset, self.register(rd)) {
@@ -76,7 +76,7 @@ impl Board {
         memory: &M,
     ) -> Result<Stepped, Refusal>
         requires { (self.old.pc < 4096) × (rd < 32) }
-        ensures { Steps (transferred Load words false 0 rd offset (core_of self.old) (meaning memory.now)) (core_of self.old) (meaning memory.now) result (core_of self.new) (meaning memory.now) }
+        ensures { Steps (transferred Load words false 0 rd offset (core_of self.old) (M.meaning memory.now)) (core_of self.old) (M.meaning memory.now) result (core_of self.new) (M.meaning memory.now) }
     {
         let next = self.after(words)?;
         match memory.peek(self.page(), offset) {
@@ -99,8 +99,8 @@ impl Board {
         memory: &mut M,
     ) -> Result<Stepped, Refusal>
         requires { (self.old.pc < 4096) × (rd < 32) }
-        ensures step { Steps (transferred transfer at.words at.room at.tick rd offset (core_of self.old) (meaning memory.old)) (core_of self.old) (meaning memory.old) result (core_of self.new) (meaning memory.new) }
-        ensures rest { frame memory.new ≡ frame memory.old }
+        ensures step { Steps (transferred transfer at.words at.room at.tick rd offset (core_of self.old) (M.meaning memory.old)) (core_of self.old) (M.meaning memory.old) result (core_of self.new) (M.meaning memory.new) }
+        ensures rest { M.frame memory.new ≡ M.frame memory.old }
     {
         match transfer {
             Transfer::Export => self.export(at.words, at.room, rd, offset),
@@ -158,8 +158,8 @@ impl Board {
         memory: &mut M,
     ) -> Result<Stepped, Refusal>
         requires { (self.old.pc < 4096) × Valid instruction }
-        ensures step { Steps (execute instruction at.words at.room at.tick (core_of self.old) (meaning memory.old)) (core_of self.old) (meaning memory.old) result (core_of self.new) (meaning memory.new) }
-        ensures rest { frame memory.new ≡ frame memory.old }
+        ensures step { Steps (execute instruction at.words at.room at.tick (core_of self.old) (M.meaning memory.old)) (core_of self.old) (M.meaning memory.old) result (core_of self.new) (M.meaning memory.new) }
+        ensures rest { M.frame memory.new ≡ M.frame memory.old }
     {
         match instruction {
             Instruction::Direct {

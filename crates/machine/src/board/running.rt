@@ -78,8 +78,8 @@ impl Board {
         exports: &mut [u32],
     ) -> RunReport
         requires { (length image.now ≤ 4096) × (length ticks.now ≤ 65536) }
-        ensures run { Reports (ran image.now (length exports.old) ticks.now (core_of self.old) (meaning memory.old)) result exports.old (core_of self.new) (meaning memory.new) exports.new }
-        ensures rest { frame memory.new ≡ frame memory.old }
+        ensures run { Reports (ran image.now (length exports.old) ticks.now (core_of self.old) (M.meaning memory.old)) result exports.old (core_of self.new) (M.meaning memory.new) exports.new }
+        ensures rest { M.frame memory.new ≡ M.frame memory.old }
     {
         let mut report = RunReport {
             ticks: 0,
@@ -109,8 +109,8 @@ impl Board {
         memory: &mut M,
         exports: &mut [u32],
     ) -> Result<RunReport, Refusal>
-        ensures run { Runs image.now ticks.now (core_of self.old) (meaning memory.old) exports.old result (core_of self.new) (meaning memory.new) exports.new }
-        ensures rest { frame memory.new ≡ frame memory.old }
+        ensures run { Runs image.now ticks.now (core_of self.old) (M.meaning memory.old) exports.old result (core_of self.new) (M.meaning memory.new) exports.new }
+        ensures rest { M.frame memory.new ≡ M.frame memory.old }
     {
         if let Some(refusal) = hindrance(image, ticks) {
             return Err(refusal);
@@ -126,8 +126,8 @@ impl Board {
         memory: &mut M,
         exports: &mut [u32],
     ) -> Result<RunReport, Refusal>
-        ensures run { Runs image.now ticks.now (core_of self.old) (meaning memory.old) exports.old result (core_of self.new) (meaning memory.new) exports.new }
-        ensures rest { frame memory.new ≡ frame memory.old }
+        ensures run { Runs image.now ticks.now (core_of self.old) (M.meaning memory.old) exports.old result (core_of self.new) (M.meaning memory.new) exports.new }
+        ensures rest { M.frame memory.new ≡ M.frame memory.old }
         ensures laws { MachineLaws }
         ensures examples { WorkedExamples }
     {
@@ -141,8 +141,8 @@ impl Board {
         tick: u16,
         memory: &mut M,
     ) -> Result<Stepped, Refusal>
-        ensures step { Steps (lone image.now tick (core_of self.old) (meaning memory.old)) (core_of self.old) (meaning memory.old) result (core_of self.new) (meaning memory.new) }
-        ensures rest { frame memory.new ≡ frame memory.old }
+        ensures step { Steps (lone image.now tick (core_of self.old) (M.meaning memory.old)) (core_of self.old) (M.meaning memory.old) result (core_of self.new) (M.meaning memory.new) }
+        ensures rest { M.frame memory.new ≡ M.frame memory.old }
     {
         if let Some(refusal) = hindrance(image, &[tick]) {
             return Err(refusal);

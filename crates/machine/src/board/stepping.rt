@@ -44,8 +44,8 @@ impl Board {
         memory: &mut M,
     ) -> Result<Stepped, Refusal>
         requires { length image.now ≤ 4096 }
-        ensures step { Steps (step image.now room tick (core_of self.old) (meaning memory.old)) (core_of self.old) (meaning memory.old) result (core_of self.new) (meaning memory.new) }
-        ensures rest { frame memory.new ≡ frame memory.old }
+        ensures step { Steps (step image.now room tick (core_of self.old) (M.meaning memory.old)) (core_of self.old) (M.meaning memory.old) result (core_of self.new) (M.meaning memory.new) }
+        ensures rest { M.frame memory.new ≡ M.frame memory.old }
     {
         if self.pc >= image.len() {
             return Err(Refusal::PcOutside { pc: self.pc });

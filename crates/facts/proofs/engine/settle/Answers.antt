@@ -7,7 +7,7 @@ pub loop-table-preserved-then-round : goal.loop-table-preserved-then-round
 loop-table-preserved-then-round g c =
     let laws = g.met.F.Fact.laws in
     let image = c.args.image.now in
-    settling_visits laws image (settling_visits laws image c.loop-table.invariant c.round.ensures.visits) c.round-back.ensures
+    settling_visits laws image (settling_visits laws image c.loop-table.invariant c.round.ensures.visits) c.round_back.ensures
 
 pub returns-then-covers : goal.returns-then-covers
 returns-then-covers g c =

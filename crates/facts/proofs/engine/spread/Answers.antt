@@ -1,5 +1,4 @@
 use Rattle.std.proofs.Common.{◌≡◌, ◌<◌, length, sym, ◌∙◌, subst, arith, rules}
-use Rattle.facts.specs.Progress.{SuccessorsBelow}
 use Rattle.facts.proofs.Spreading.{within_below, spreads, spreads_none}
 use Rattle.facts.proofs.engine.spread.Goals as goal
 
@@ -8,11 +7,8 @@ returns-in-Err g c =
     let told = c.in-Err.ensures in
     spreads_none g.met.F.Fact.laws c.args.image.now c.args.at c.args.total c.args.table.now c.args.dirty.now (λ i w. told.answer.0 (told.law.defined i _ w))
 
-pub offset-bounds-table-at : goal.offset-bounds-table-at
-offset-bounds-table-at g c = let h : c.args.at < length c.args.table.now = omega (arith, c.requires.level.facts) in search rules
-
-pub raise-all-requires : goal.raise-all-requires
-raise-all-requires g c = record { inside = rw (c.within-to.ensures, c.requires.level.facts) (within_below _ c.of.result); level = c.requires.level.flagged ∙ sym c.requires.level.facts }
+pub raise_all-requires-clause-inside : goal.raise_all-requires-clause-inside
+raise_all-requires-clause-inside g c = rw (c.within-to.ensures, c.requires.level.facts) (within_below _ c.of.result)
 
 pub returns-in-Ok : goal.returns-in-Ok
 returns-in-Ok g c =
