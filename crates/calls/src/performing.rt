@@ -16,8 +16,8 @@ pub fn perform<M: Memory>(
     memory: &mut M,
     exports: &mut [u32],
 ) -> Answer
-    ensures performs { Performs image.now (call_of (length exports.old) call.entry) (state_of board.old (meaning memory.old)) exports.old (state_of board.new (meaning memory.new)) exports.new result }
-    ensures rest { frame memory.new ≡ frame memory.old }
+    ensures performs { Performs image.now (call_of (length exports.old) call.entry) (state_of board.old (M.meaning memory.old)) exports.old (state_of board.new (M.meaning memory.new)) exports.new result }
+    ensures rest { M.frame memory.new ≡ M.frame memory.old }
 {
     match call {
         Call::Step { tick } => Answer::Step(board.step(image, tick, memory)),
@@ -42,8 +42,8 @@ pub fn perform_all<M: Memory>(
     answers: &mut [Answer],
 ) -> usize
     ensures count { result ≡ min (length calls.now) (length answers.old) }
-    ensures performs { PerformsAll image.now (calls_of (length exports.old) (take result calls.now)) (state_of board.old (meaning memory.old)) exports.old answers.old (state_of board.new (meaning memory.new)) exports.new answers.new }
-    ensures rest { frame memory.new ≡ frame memory.old }
+    ensures performs { PerformsAll image.now (calls_of (length exports.old) (take result calls.now)) (state_of board.old (M.meaning memory.old)) exports.old answers.old (state_of board.new (M.meaning memory.new)) exports.new answers.new }
+    ensures rest { M.frame memory.new ≡ M.frame memory.old }
 {
     let count = calls.len().min(answers.len());
     for place in 0..count {

@@ -23,8 +23,8 @@ fn perform_newly<M: Memory>(
     answers: &mut [Answer],
 ) -> usize
     ensures count { result ≡ min (length calls.now) (length answers.old) }
-    ensures performs { PerformsAll passed.now.words.now (calls_of (length exports.old) (take result calls.now)) (start (meaning memory.old)) exports.old answers.old (state_of board.new (meaning memory.new)) exports.new answers.new }
-    ensures rest { frame memory.new ≡ frame memory.old }
+    ensures performs { PerformsAll passed.now.words.now (calls_of (length exports.old) (take result calls.now)) (start (M.meaning memory.old)) exports.old answers.old (state_of board.new (M.meaning memory.new)) exports.new answers.new }
+    ensures rest { M.frame memory.new ≡ M.frame memory.old }
 {
     board.reset();
     perform_all(board, passed.words(), calls, memory, exports, answers)
@@ -41,9 +41,9 @@ pub fn trial<M: Memory>(
     answers: &mut [Answer],
 ) -> usize
     ensures count { result ≡ min (length calls.now) (length answers.old) }
-    ensures performs { PerformsAll passed.now.words.now (calls_of (length exports.old) (take result calls.now)) (start (meaning memory.old)) exports.old answers.old (state_of board.new (meaning memory.new)) exports.new answers.new }
-    ensures rest { frame memory.new ≡ frame memory.old }
-    ensures safe { Certified passed.now → passed.now.owned.last < (meaning memory.old).pages → TrialSafe passed.now.words.now passed.now.owned passed.now.depth (meaning memory.old) (calls_of (length exports.old) (take result calls.now)) answers.new (state_of board.new (meaning memory.new)) }
+    ensures performs { PerformsAll passed.now.words.now (calls_of (length exports.old) (take result calls.now)) (start (M.meaning memory.old)) exports.old answers.old (state_of board.new (M.meaning memory.new)) exports.new answers.new }
+    ensures rest { M.frame memory.new ≡ M.frame memory.old }
+    ensures safe { Certified passed.now → passed.now.owned.last < (M.meaning memory.old).pages → TrialSafe passed.now.words.now passed.now.owned passed.now.depth (M.meaning memory.old) (calls_of (length exports.old) (take result calls.now)) answers.new (state_of board.new (M.meaning memory.new)) }
 {
     perform_newly(passed, board, memory, calls, exports, answers)
 }
