@@ -7,15 +7,15 @@ pub returns-then-image-lt2 : goal.returns-then-image-lt2
 returns-then-image-lt2 c =
     length_of_image (λ fits. ⊎_elim (λ h. omega (arith, fits.0)) (λ h. omega (arith, fits.1, h.1)) c.then-image-lt2.either)
 
-pub returns-in-err-check-words : goal.returns-in-err-check-words
-returns-in-err-check-words c =
-    let p = err_from_is_err_and c.from-residual.result c.from-residual.ensures.1 in
-    rw (p.1, p.2) (word_too_large (omega arith, omega arith) c.in-err-check-words.ensures)
+pub returns-in_err-check_words : goal.returns-in_err-check_words
+returns-in_err-check_words c =
+    let p = err_from_is_err_and c.from_residual.result c.from_residual.ensures.1 in
+    rw (p.1, p.2) (word_too_large (omega arith, omega arith) c.in_err-check_words.ensures)
 
 pub returns-then-owned : goal.returns-then-owned
 returns-then-owned c =
-    pages_of_nobody (omega arith, omega arith) c.in-ok-check-words.ensures (λ order. ⊎_elim (λ h. omega (arith, order.0)) (λ h. omega (arith, order.1, h.1)) c.then-owned.either)
+    pages_of_nobody (omega arith, omega arith) c.in_ok-check_words.ensures (λ order. ⊎_elim (λ h. omega (arith, order.0)) (λ h. omega (arith, order.1, h.1)) c.then-owned.either)
 
 pub returns-then-rows-image : goal.returns-then-rows-image
 returns-then-rows-image c =
-    few_rows (omega arith, omega arith) c.in-ok-check-words.ensures (omega arith, omega arith) c.if-rows-image.true
+    few_rows (omega arith, omega arith) c.in_ok-check_words.ensures (omega arith, omega arith) c.if-rows-image.true

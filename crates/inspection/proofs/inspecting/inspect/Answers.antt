@@ -5,4 +5,4 @@ use Rattle.inspection.proofs.Once.{one_verdict}
 use Rattle.inspection.proofs.inspecting.inspect.Goals as goal
 
 pub returns : goal.returns
-returns c = record { answer = c.inspect-image.ensures; safety = safety_within; laws = ledger_laws; once = one_verdict; examples = examples_hold }
+returns c = record { answer = c.inspect_image.ensures; safety = safety_within; laws = ledger_laws; once = one_verdict; examples = examples_hold }

@@ -12,11 +12,11 @@ judge-verdict-requires c =
       none = λ a. front_zeros _ 4096 a few;
     }
 
-pub returns-then-is-err : goal.returns-then-is-err
-returns-then-is-err c =
+pub returns-then-is_err : goal.returns-then-is_err
+returns-then-is_err c =
     let long : length c.judge-verdict.new.rows ≡ length c.args.image.now = let kept = c.judge-verdict.auto.rows in search rules in
-    judged_err c.args.image.now c.args.owned c.judge-verdict.result c.judge-verdict.new.rows c.clear-rows.new.rows c.judge-verdict.ensures (sym c.if-is-err.ensures.value) (c.clear-rows.ensures ∙ ap (λ n. replicate n blank_row) long)
+    judged_err c.args.image.now c.args.owned c.judge-verdict.result c.judge-verdict.new.rows c.clear_rows.new.rows c.judge-verdict.ensures (sym c.if-is_err.ensures.value) (c.clear_rows.ensures ∙ ap (λ n. replicate n blank_row) long)
 
-pub returns-else-is-err : goal.returns-else-is-err
-returns-else-is-err c =
-    judged_ok c.args.image.now c.args.owned c.judge-verdict.result c.judge-verdict.new.rows c.judge-verdict.ensures (sym c.if-is-err.ensures.value)
+pub returns-else-is_err : goal.returns-else-is_err
+returns-else-is_err c =
+    judged_ok c.args.image.now c.args.owned c.judge-verdict.result c.judge-verdict.new.rows c.judge-verdict.ensures (sym c.if-is_err.ensures.value)

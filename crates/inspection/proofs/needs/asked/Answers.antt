@@ -5,7 +5,7 @@ use Rattle.inspection.proofs.needs.asked.Goals as goal
 pub returns-in-Some : goal.returns-in-Some
 returns-in-Some c =
     asks c.args.image.now c.args.needs.now c.args.at c.in-Some.instruction (sym c.in-Some.ensures.0) c.requires.2 c.max.result
-    (rw (c.max.ensures, c.max-past.ensures, c.max-call.ensures, c.need-at.ensures, c.need-at-in-Some.ensures, c.call-need.ensures, c.need-at-in-Some-2.ensures, c.within-to.ensures, c.of.ensures))
+    (rw (c.max.ensures, c.max-past.ensures, c.max-call.ensures, c.need_at.ensures, c.need_at-in-Some.ensures, c.call_need.ensures, c.need_at-in-Some-2.ensures, c.within-to.ensures, c.of.ensures))
 
 pub returns-in-None : goal.returns-in-None
 returns-in-None c = asks_none c.args.image.now c.args.needs.now c.args.at (sym c.in-None.ensures.0)

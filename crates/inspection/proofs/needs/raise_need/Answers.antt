@@ -5,6 +5,6 @@ use Rattle.inspection.proofs.needs.raise_need.Goals as goal
 
 pub returns : goal.returns
 returns c = record {
-  lifts = lifts_set c.args.image.now _ c.args.needs.now c.args.at c.asked-need.result c.requires.3 c.requires.4 (sym c.if-not-either-marked.ensures) c.asked-need.ensures c.if-need-needs.false (omega arith);
+  lifts = lifts_set c.args.image.now _ c.args.needs.now c.args.at c.asked-need.result c.requires.3 c.requires.4 (sym c.if-not-either_marked.ensures) c.asked-need.ensures c.if-need-needs.false (omega arith);
   enough = λ e. absurd (true≢false e);
 }

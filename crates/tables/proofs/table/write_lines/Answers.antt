@@ -4,7 +4,7 @@ use Rattle.tables.proofs.table.write_lines.Goals as goal
 
 pub loop-address-preserved : goal.loop-address-preserved
 loop-address-preserved c =
-    let wrote = c.in-ok-writeln.ensures.bytes in
+    let wrote = c.in_ok-writeln.ensures.bytes in
     left_more (string_bytes c.args.text.now) c.args.words.now c.args.rows.now c.loop-address.address c.index-rows-address.result c.instruction.result (string_bytes c.loop-address.text) (string_bytes c.writeln.new.self) (omega arith) (omega arith) c.instruction.ensures c.index-rows-address.is c.loop-address.invariant wrote
 
 pub returns : goal.returns

@@ -4,4 +4,4 @@ use Rattle.tables.proofs.table.write_table.Goals as goal
 
 pub returns : goal.returns
 returns c =
-    table_whole (string_bytes c.args.text.now) (string_bytes c.writeln.new.self) (string_bytes c.write-lines.new.text) c.args.words.now c.args.rows.now c.in-ok-writeln.ensures.bytes c.in-ok-write-lines.ensures
+    table_whole (string_bytes c.args.text.now) (string_bytes c.writeln.new.self) (string_bytes c.write_lines.new.text) c.args.words.now c.args.rows.now c.in_ok-writeln.ensures.bytes c.in_ok-write_lines.ensures

@@ -5,4 +5,4 @@ use Rattle.tables.proofs.tabling.job_table.Goals as goal
 pub returns-in-Ok : goal.returns-in-Ok
 returns-in-Ok c =
     let job = c.in-Ok.job in
-    job_tables string_bytes c.args.bytes.now job.pages (vec_items job.words) (vec_items job.ticks) c.as-slice.result.now c.as-slice.ensures.value c.in-Ok.ensures.answer c.program-table.result c.program-table.ensures
+    job_tables string_bytes c.args.bytes.now job.pages (vec_items job.words) (vec_items job.ticks) c.as_slice.result.now c.as_slice.ensures.value c.in-Ok.ensures.answer c.program_table.result c.program_table.ensures

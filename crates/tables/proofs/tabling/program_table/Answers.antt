@@ -5,4 +5,4 @@ use Rattle.tables.proofs.tabling.program_table.Goals as goal
 
 pub returns : goal.returns
 returns c =
-    subst (λ (row : Row). Tables string_bytes c.args.owned c.args.words.now row c.table-with.result) c.blank-blank.ensures c.table-with.ensures
+    subst (λ (row : Row). Tables string_bytes c.args.owned c.args.words.now row c.table_with.result) c.blank-blank.ensures c.table_with.ensures
