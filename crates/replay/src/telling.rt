@@ -1,7 +1,6 @@
 // What the library says of a job, in the lines of the stored jobs.
 use huigasto::{FrameMarks, Job, Row, inspect, report};
 use std::alloc::{AllocError, Global};
-use std::fmt;
 
 fn marks(marks: FrameMarks) -> &'static str {
     match (marks.outer, marks.routine) {
@@ -12,7 +11,7 @@ fn marks(marks: FrameMarks) -> &'static str {
     }
 }
 
-fn write_row(text: &mut String, address: usize, row: Row) -> fmt::Result {
+fn write_row(text: &mut String, address: usize, row: Row) -> Result<(), AllocError> {
     let main = marks(row.main);
     let handler = marks(row.handler);
     write!(text, "ROW {address} {main} {handler}")?;
@@ -21,7 +20,7 @@ fn write_row(text: &mut String, address: usize, row: Row) -> fmt::Result {
     writeln!(text, " {}", row.need)
 }
 
-fn write_rows(text: &mut String, rows: &[Row]) -> fmt::Result {
+fn write_rows(text: &mut String, rows: &[Row]) -> Result<(), AllocError> {
     for address in 0..rows.len() {
         write_row(text, address, rows[address])?;
     }
@@ -29,7 +28,7 @@ fn write_rows(text: &mut String, rows: &[Row]) -> fmt::Result {
 }
 
 // A line for each word: what inspection leaves of zeros, whether the program passes or not.
-fn write_ledger(text: &mut String, job: &Job, rows: &mut [Row]) -> fmt::Result {
+fn write_ledger(text: &mut String, job: &Job, rows: &mut [Row]) -> Result<(), AllocError> {
     let words = job.words.as_slice();
     let _ = inspect(words, job.pages, rows);
     let count = words.len().min(rows.len());
@@ -44,8 +43,6 @@ pub(crate) fn told(heap: Global, bytes: &[u8]) -> Result<String, AllocError> {
     };
     let blank = Row::blank();
     let mut rows = [blank; 4096];
-    match write_ledger(&mut text, &job, &mut rows) {
-        Ok(()) => Ok(text),
-        Err(_) => Err(AllocError),
-    }
+    write_ledger(&mut text, &job, &mut rows)?;
+    Ok(text)
 }

@@ -28,11 +28,12 @@ fn a_whole_job(rt: HostRuntime) -> Result<(), Fail> {
     assert_eq!(rt; job.pages, OwnedPages { first: 3, last: 3 });
     assert_eq!(rt;
         job.words.as_slice(),
-        &[
+        [
             0x3A000, 0x12E03, 0x2C005, 0x38002, 0x3B000, 0x2E12C, 0x39000,
         ]
+        .as_slice()
     );
-    assert_eq!(rt; job.ticks.as_slice(), &[0, 0, 0x100, 0, 0, 0]);
+    assert_eq!(rt; job.ticks.as_slice(), [0, 0, 0x100, 0, 0, 0].as_slice());
     Ok(())
 }
 
