@@ -4,7 +4,7 @@
 --   exports_by    the export list after a call
 --   answers_of    what each call of a list answers, by the state that those before it left
 --   exports_of    the export list after a list of calls
-use Rattle.std.specs.Prelude.{ℕ, Bool, cond, List, [], ◌∷◌, ◌++◌, length, drop, Some, None, Ok, Err, Option, Result, nat_lt}
+use Rattle.std.specs.Prelude.{ℕ, cond, List, [], ◌∷◌, ◌++◌, length, drop, Some, None, Ok, Err, Option, Result, nat_lt}
 use Rattle.refusals.specs.declared.Refusal.{Refusal}
 use Rattle.refusals.specs.declared.Refusal.TheVariants.{NoSuchPage}
 use Rattle.machine.specs.declared.report.RunReport.{RunReport}

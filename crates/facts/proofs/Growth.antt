@@ -1,10 +1,10 @@
 -- What one raise does to a table, and what steps in a row do. Assumes nothing.
-use Rattle.std.proofs.Common.{◌≡◌, ℕ, zero, suc, ◌+◌, ◌-◌, ◌<◌, ◌≤◌, Bool, true, false, ◌||◌, ◌≢◌, ◌⊎◌, List, [], ◌∷◌, length, get_or, set, Some, MatchBool, Option, sym, refl, ap, ◌∙◌, subst, inl, inr, arith, length-set, get_or-set_other, get_or-set_same}
+use Rattle.std.proofs.Common.{◌≡◌, ℕ, zero, suc, ◌+◌, ◌-◌, ◌<◌, ◌≤◌, Bool, true, false, ◌||◌, List, [], ◌∷◌, length, get_or, set, Some, MatchBool, Option, sym, refl, ◌∙◌, subst, inl, inr, arith, length-set, get_or-set_other, get_or-set_same}
 use Rattle.std.proofs.lemmas.List.{get_or_read}
 use Rattle.std.proofs.lemmas.Bool.{cases_eq, both_ways, or_parts, true≢false}
 use Rattle.facts.specs.Kinds.{Kind, Covers}
 use Rattle.facts.specs.Laws.{Laws}
-use Rattle.facts.specs.Progress.{room, Grows, Noted, Raises, CoversAt, Receives, flag_at}
+use Rattle.facts.specs.Progress.{room, Grows, Noted, Raises, CoversAt}
 use Rattle.facts.specs.Tables.{fact_at, Below}
 
 pub room_set :

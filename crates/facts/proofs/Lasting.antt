@@ -1,11 +1,11 @@
 -- Frame marks and page spans are never carried to nothing, so that they mark the same addresses. Assumes nothing.
-use Rattle.std.proofs.Common.{◌≡◌, ℕ, ◌<◌, Bool, true, false, not, ◌&&◌, ◌||◌, List, length, refl, arith, rules}
+use Rattle.std.proofs.Common.{◌≡◌, true, refl, arith, rules}
 use Rattle.words.specs.declared.instruction.Instruction.{Instruction}
 use Rattle.facts.specs.Laws.{Laws}
 use Rattle.facts.specs.Marks.{marks}
 use Rattle.facts.specs.Spans.{spans}
 use Rattle.facts.specs.Successors.{Edge, past, enter, resume}
-use Rattle.facts.specs.Tables.{fact_at, summary, carry, known, marked}
+use Rattle.facts.specs.Tables.{carry, known}
 use Rattle.facts.specs.Theorems.{Lasting, SameMarked}
 use Rattle.facts.specs.declared.marks.FrameMarks.{FrameMarks}
 use Rattle.facts.specs.declared.spans.PageSpans.{PageSpans}

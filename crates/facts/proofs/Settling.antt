@@ -1,12 +1,12 @@
 -- Why rounds end in the smallest table: what they keep, and what it comes to once nothing changes. Assumes nothing.
-use Rattle.std.proofs.Common.{◌≡◌, ℕ, ◌+◌, ◌-◌, ◌<◌, ◌≤◌, Bool, true, false, ◌⊎◌, List, length, get_or, replicate, Some, sym, refl, ap, ◌∙◌, subst, inl, inr, arith}
+use Rattle.std.proofs.Common.{◌≡◌, ℕ, ◌+◌, ◌-◌, ◌<◌, ◌≤◌, Bool, true, false, List, length, replicate, Some, sym, refl, ap, ◌∙◌, subst, inl, inr, arith}
 use lib.ListN.{length-replicate}
 use Rattle.std.proofs.lemmas.List.{get_or-replicate, get_or_past}
 use Rattle.std.proofs.lemmas.Bool.{cases_lt, both_ways}
 use Rattle.facts.specs.Kinds.{Kind, Covers}
 use Rattle.facts.specs.Laws.{Laws}
 use Rattle.facts.specs.Progress.{Level, room, Raises, Settled, Visits, Begins, Settles, CoversAt, NoneBelow, flag_at}
-use Rattle.facts.specs.Tables.{fact_at, summary, Flows, Closed, Below, Smallest}
+use Rattle.facts.specs.Tables.{fact_at, summary, Flows, Below, Smallest}
 use Rattle.facts.proofs.Carries.{carry_bottom, carry_mono}
 use Rattle.facts.proofs.Rounding.{settled_noted}
 use Rattle.facts.proofs.Summaries.{summary_mono}

@@ -1,5 +1,5 @@
 -- What is carried from one address on: it arrives at each successor, and every table on which facts flow has it. Assumes nothing.
-use Rattle.std.proofs.Common.{◌≡◌, ℕ, ◌<◌, Bool, true, false, cond, ◌||◌, ltb, ◌⊎◌, List, length, get_or, ℤ, pos, negsuc, Some, None, Option, sym, refl, ap, ◌∙◌, subst, inl, inr, arith}
+use Rattle.std.proofs.Common.{◌≡◌, ℕ, ◌<◌, Bool, false, ◌||◌, List, length, get_or, ℤ, pos, negsuc, Some, None, Option, sym, refl, subst, inl, inr, arith}
 use Rattle.std.proofs.lemmas.List.{get_or_read}
 use Rattle.std.proofs.lemmas.Bool.Decides.{nat_tests}
 use Rattle.std.proofs.lemmas.Bool.{lt-ltb}
@@ -7,9 +7,9 @@ use Rattle.words.specs.Codec.{Writes, OneInstructionEach}
 use Rattle.words.specs.declared.instruction.Instruction.{Instruction}
 use Rattle.facts.specs.Kinds.{Kind, Covers}
 use Rattle.facts.specs.Laws.{Laws}
-use Rattle.facts.specs.Progress.{Grows, Noted, Raises, AddressBelow, SuccessorsBelow, CoversAt, Receives, Spreads, FlowsOver}
-use Rattle.facts.specs.Successors.{successors, inside, within, Edge, past, enter, resume, Leads, Step}
-use Rattle.facts.specs.Tables.{fact_at, summary, carry, Carried, Flows, Below}
+use Rattle.facts.specs.Progress.{Raises, SuccessorsBelow, CoversAt, Receives, Spreads, FlowsOver}
+use Rattle.facts.specs.Successors.{successors, inside, within, Edge, past, enter, resume, Leads}
+use Rattle.facts.specs.Tables.{fact_at, summary, carry, Carried, Below}
 use Rattle.facts.specs.declared.successors.Successors.{Successors}
 use Rattle.facts.proofs.Growth.{grows_none, grows_for, noted_none, raises_more}
 

@@ -1,9 +1,9 @@
 -- What being closed and smallest owes to the facts at the words of the image alone. Assumes nothing.
-use Rattle.std.proofs.Common.{◌≡◌, ℕ, ◌<◌, List, ◌++◌, length, sym, refl, ap, ◌∙◌, subst, arith}
+use Rattle.std.proofs.Common.{◌≡◌, ℕ, List, ◌++◌, length, sym, arith}
 use Rattle.std.proofs.lemmas.List.{get_or_append_left}
-use Rattle.facts.specs.Kinds.{Kind, Covers}
+use Rattle.facts.specs.Kinds.{Kind}
 use Rattle.facts.specs.Laws.{Laws}
-use Rattle.facts.specs.Tables.{fact_at, summary, carry, Carried, Flows, Closed, Below, Agree, Smallest}
+use Rattle.facts.specs.Tables.{summary, Closed, Below, Agree, Smallest}
 use Rattle.facts.proofs.Summaries.{summary_mono}
 
 module _ {F : Type 0} {k : Kind F} (laws : Laws k) (image : List ℕ) where

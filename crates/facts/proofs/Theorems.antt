@@ -1,14 +1,12 @@
 -- The laws of smallest tables, from the laws of the kind of fact. Assumes nothing.
-use Rattle.std.proofs.Common.{◌≡◌, ℕ, ◌<◌, Bool, true, false, cond, not, ◌⊎◌, List, [], map, length, get_or, sym, refl, ap, ◌∙◌, subst, inl, inr, arith}
+use Rattle.std.proofs.Common.{◌≡◌, ℕ, ◌<◌, Bool, true, false, cond, List, [], map, length, sym, ap, ◌∙◌, subst, inl, inr, arith}
 use Rattle.std.proofs.lemmas.List.FromFn.{get_or-map-range_with_len}
 use Rattle.std.proofs.lemmas.Bool.{cases_Bool, both_ways, not-true, not-false, not_from_true}
 use Rattle.std.proofs.lemmas.Bool.Decides.{same_from_decides}
 use Rattle.std.specs.List.{range_with_len}
-use Rattle.words.specs.declared.instruction.Instruction.{Instruction}
 use Rattle.facts.specs.Kinds.{Kind, Covers}
 use Rattle.facts.specs.Laws.{Laws}
-use Rattle.facts.specs.Successors.{Edge, past, enter, resume, Step}
-use Rattle.facts.specs.Tables.{fact_at, summary, carry, Carried, Flows, Closed, Below, Agree, Smallest, known, marked}
+use Rattle.facts.specs.Tables.{fact_at, Flows, Closed, Below, Agree, Smallest, known, marked}
 use Rattle.facts.specs.Theorems.{Passes, SmallestLaws, Lasting, SameMarked}
 use Rattle.facts.proofs.Carries.{carry_bottom, carry_mono}
 use Rattle.facts.proofs.Summaries.{summary_mono}

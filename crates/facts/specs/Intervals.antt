@@ -1,16 +1,14 @@
 -- What intervals keep: their order, their hull and how an instruction moves one. Assumes nothing.
-use Rattle.std.specs.Prelude.{◌≡◌, ℕ, ◌+◌, ◌-◌, ◌<◌, ◌≤◌, min, max, Bool, true, false, cond, ◌&&◌, eqb, leb, ◌⊎◌, refl}
+use Rattle.std.specs.Prelude.{◌≡◌, ℕ, ◌<◌, ◌≤◌, Bool, true, false, cond, ◌⊎◌}
 use mathlib.Core.HLevel.{is_prop→PathP}
-use Rattle.std.proofs.Common.{inl, inr, ap, arith}
+use Rattle.std.proofs.Common.{inl, inr, arith}
 use Rattle.std.proofs.Math.Bridge.{le_prop}
 use Rattle.std.proofs.lemmas.Bool.{cases_Bool}
 use Rattle.std.proofs.lemmas.Bool.Decides.{nat_tests}
 use Rattle.words.specs.declared.instruction.Instruction.{Instruction}
-use Rattle.words.specs.declared.instruction.Instruction.TheVariants.{Register, Immediate, Rotate, Flag, Direct, Indirect, BranchIf, CallIf, Call, Return, ReturnFromInterrupt, Branch}
 use Rattle.words.specs.declared.codes.Operation.{Operation}
-use Rattle.words.specs.declared.codes.Operation.TheVariants.{Sub, Subc, Add, Addc, Mov, And, Or, Xor, Cmp, Test}
 use Rattle.facts.specs.declared.interval.Interval.{Interval}
-use Rattle.facts.specs.Spans.{point, up_to, hull, contains, width, immediate, computed, moved, is}
+use Rattle.facts.specs.Spans.{hull, contains, width, immediate, computed, moved, is}
 use Rattle.facts.specs.Written.{written}
 
 pub same_interval : (x y : Interval) → x.low ≡ y.low → x.high ≡ y.high → x ≡ y

@@ -1,6 +1,5 @@
 -- The kind of fact that frame marks are: sets of outer and routine. Assumes nothing.
-use Rattle.std.specs.Prelude.{ℕ, ◌+◌, Bool, true, false, cond, not, ◌&&◌, ◌||◌}
-use Rattle.words.specs.declared.instruction.Instruction.{Instruction}
+use Rattle.std.specs.Prelude.{◌+◌, false, cond, not, ◌&&◌, ◌||◌}
 use Rattle.facts.specs.Kinds.{Kind}
 use Rattle.facts.specs.declared.marks.FrameMarks.{FrameMarks}
 

@@ -1,13 +1,12 @@
 -- Page spans keep the laws of a kind of fact. Assumes nothing.
-use Rattle.std.specs.Prelude.{◌≡◌, ℕ, ◌+◌, ◌<◌, ◌≤◌, Bool, true, false, ◌&&◌, ◌⊎◌, refl}
-use Rattle.std.proofs.Common.{inl, inr, ap, arith}
+use Rattle.std.specs.Prelude.{◌≡◌, ◌<◌, true, ◌⊎◌, refl}
+use Rattle.std.proofs.Common.{inl, inr, arith}
 use Rattle.std.proofs.lemmas.Bool.{and_parts, and_from, false≢true}
 use Rattle.words.specs.declared.instruction.Instruction.{Instruction}
-use Rattle.facts.specs.declared.interval.Interval.{Interval}
 use Rattle.facts.specs.declared.spans.PageSpans.{PageSpans}
 use Rattle.facts.specs.declared.spans.PageSpans.TheVariants.{Nothing, Spans}
-use Rattle.facts.specs.Laws.{Laws, Order, Joins, Strict, Monotone}
-use Rattle.facts.specs.Spans.{contains, hull, width, moved, joined, covered, extent, move_both, summed, spans}
+use Rattle.facts.specs.Laws.{Laws}
+use Rattle.facts.specs.Spans.{joined, covered, extent, move_both, summed, spans}
 use Rattle.facts.specs.Intervals.{contains_refl, contains_trans, contains_antisym, hull_left, hull_right, hull_least, hull_wider, hull_rises, moved_mono}
 
 covered_refl : (x : PageSpans) → covered x x ≡ true

@@ -1,7 +1,6 @@
 -- What the successors of a word ask for, of the needs of a list. Assumes nothing.
-use Rattle.std.proofs.Common.{◌≡◌, ℕ, ◌+◌, ◌<◌, ◌≤◌, min, max, List, length, get_or, pos, Some, None, Option, sym, refl, ap, ◌∙◌, subst, inl, inr, arith}
+use Rattle.std.proofs.Common.{◌≡◌, ℕ, ◌+◌, ◌<◌, ◌≤◌, min, max, List, length, get_or, pos, Some, None, Option, refl, ap, subst, inl, inr, arith}
 use Rattle.words.specs.declared.instruction.Instruction.{Instruction}
-use Rattle.words.specs.Codec.{Writes}
 use Rattle.words.specs.Decoding.{instruction_of}
 use Rattle.words.proofs.Codec.{written_computed}
 use Rattle.facts.specs.Successors.{Edge, past, enter, resume, Leads, Step, successors, within}

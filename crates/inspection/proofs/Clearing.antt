@@ -1,8 +1,8 @@
 -- What the search for the causes 5 to 9 finds, or does not find, at an address. Assumes nothing.
 use Rattle.std.proofs.Common.{◌≡◌, ℕ, Bool, true, false, cond, not, ◌&&◌, ◌||◌, ltb, ◌⊎◌, List, length, ℤ, pos, negsuc, Some, None, Option, sym, refl, ap, ◌∙◌, subst, inl, inr, ⊎_elim, arith}
-use Rattle.std.proofs.lemmas.Bool.{and_from, and_parts, both_ways, cases_Bool, cond-true, cond-false, eqb-true, eq-eqb, false≢true, not-true, not_from_false, or_cases, or_parts, or_left, or_right, true≢false}
+use Rattle.std.proofs.lemmas.Bool.{and_from, and_parts, both_ways, cond-false, eqb-true, eq-eqb, false≢true, not-true, or_cases, or_left, or_right}
 use Rattle.refusals.specs.declared.Refusal.{Refusal}
-use Rattle.refusals.specs.declared.Refusal.TheVariants.{SuccessorOutside, UndefinedReached, FramesMixed, ReturnMisplaced, PageRegisterWritten}
+use Rattle.refusals.specs.declared.Refusal.TheVariants.{PageRegisterWritten}
 use Rattle.words.specs.declared.instruction.Instruction.{Instruction}
 use Rattle.words.specs.declared.instruction.Instruction.TheVariants.{Register, Immediate, Rotate, Flag, Direct, Indirect, BranchIf, CallIf, Call, Return, ReturnFromInterrupt, Branch}
 use Rattle.words.specs.Addresses.{inside_image}
@@ -12,8 +12,8 @@ use Rattle.facts.specs.Spans.{is}
 use Rattle.facts.specs.Successors.{Edge, past, enter, resume, Leads, successors}
 use Rattle.facts.specs.Written.{written}
 use Rattle.ledger.specs.declared.row.Row.{Row}
-use Rattle.ledger.specs.Causes.{instruction_at, LeadsOutside, Undefined, Mixed, MixedFrames, MisplacedReturn, WritesPageRegister}
-use Rattle.ledger.specs.Rows.{any_frame, main_at, handler_at, MainMarked, Marked}
+use Rattle.ledger.specs.Causes.{instruction_at, LeadsOutside, Undefined, MixedFrames, MisplacedReturn, WritesPageRegister}
+use Rattle.ledger.specs.Rows.{any_frame, main_at, handler_at, Marked}
 use Rattle.ledger.specs.Verdicts.{Clear, CauseAt, outside, undefined, mixed, misplaced}
 use Rattle.ledger.specs.Verdicts.{written as writing}
 use Rattle.inspection.specs.Looking.{outside_image, escapes, leaves, either_marked, writes_page, cause_of, word_cause, instruction_cause}

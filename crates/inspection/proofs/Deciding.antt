@@ -1,10 +1,10 @@
 -- From what the searches found to the verdict. Assumes nothing.
-use Rattle.std.proofs.Common.{◌≡◌, ℕ, ◌+◌, ◌<◌, ◌≤◌, Bool, true, false, cond, ◌⊎◌, List, map, length, get_or, Some, None, sym, refl, ap, ◌∙◌, subst, inl, inr, ⊎_elim, arith}
+use Rattle.std.proofs.Common.{◌≡◌, ℕ, ◌+◌, ◌<◌, ◌≤◌, Bool, cond, List, map, length, get_or, None, sym, ap, ◌∙◌, subst, inl, inr, ⊎_elim, arith}
 use Rattle.std.proofs.lemmas.List.{get_or_past}
 use Rattle.std.proofs.lemmas.Bool.{cases_lt, false≢true}
 use Rattle.std.specs.List.{range_with_len}
 use Rattle.refusals.specs.declared.Refusal.{Refusal}
-use Rattle.refusals.specs.declared.Refusal.TheVariants.{StackTooDeep, PageNotOwned}
+use Rattle.refusals.specs.declared.Refusal.TheVariants.{StackTooDeep}
 use Rattle.facts.specs.declared.marks.FrameMarks.{FrameMarks}
 use Rattle.facts.specs.declared.spans.PageSpans.{PageSpans}
 use Rattle.facts.specs.Marks.{marks, unmarked}
@@ -15,8 +15,8 @@ use Rattle.ledger.specs.declared.row.Row.{Row}
 use Rattle.ledger.specs.Causes.{instruction_at, ForeignPage}
 use Rattle.ledger.specs.Interrupts.{interruptible, outermost, handler_start}
 use Rattle.ledger.specs.Ledgers.{Ledger, zero_spans}
-use Rattle.ledger.specs.Needs.{Suffices, TooDeep, Needs, deepest, depth}
-use Rattle.ledger.specs.Rows.{any_frame, main_at, handler_at, spans_at, need_at, all_spans, needs}
+use Rattle.ledger.specs.Needs.{Suffices, TooDeep, deepest, depth}
+use Rattle.ledger.specs.Rows.{any_frame, main_at, handler_at, spans_at, need_at, all_spans}
 use Rattle.ledger.specs.Verdicts.{Clear, Because, early, deep, foreign, SmallestLedger, Surveyed}
 use Rattle.ledger.proofs.Growing.{deepest_mono, least_depth}
 use Rattle.inspection.specs.Facts.{handler_marks, Facts}

@@ -1,16 +1,10 @@
 -- How needs rise: they keep below every list that is enough, and what is enough when they rise no more. Assumes nothing.
-use Rattle.std.proofs.Common.{◌≡◌, ℕ, ◌+◌, ◌-◌, ◌<◌, ◌≤◌, max, Bool, true, false, ◌||◌, leb, ◌≢◌, ◌⊎◌, List, map, length, get_or, set, Some, sym, refl, ap, ◌∙◌, subst, inl, inr, arith, get_or-set_other}
+use Rattle.std.proofs.Common.{◌≡◌, ℕ, ◌-◌, ◌<◌, ◌≤◌, max, Bool, true, false, ◌||◌, leb, List, map, length, get_or, set, Some, sym, refl, ap, ◌∙◌, subst, inl, inr, arith, get_or-set_other}
 use Rattle.std.proofs.lemmas.List.{get_or_default, length-map}
 use Rattle.std.proofs.lemmas.Bool.{cases_eq, cases_lt, both_ways, le-leb, leb-true, lt-leb, or_parts, true≢false}
-use Rattle.std.proofs.lemmas.Bool.Decides.{nat_tests}
-use Rattle.words.specs.declared.instruction.Instruction.{Instruction}
-use Rattle.facts.specs.Kinds.{Covers}
 use Rattle.facts.specs.Laws.{Laws}
-use Rattle.facts.specs.Progress.{Grows}
-use Rattle.facts.specs.Successors.{Edge, Step}
 use Rattle.facts.specs.Tables.{Below}
 use Rattle.facts.proofs.Growth.{raised, grows_none, grows_more}
-use Rattle.ledger.specs.Needs.{pushes}
 use Rattle.inspection.specs.Needing.{needing, Enough, Allowed, Asks, Lifts, Settled}
 
 pub needing_laws : Laws needing

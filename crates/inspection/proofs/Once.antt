@@ -1,17 +1,17 @@
 -- Inspection has one answer: one verdict on an image, and one list of rows. Assumes nothing.
-use Rattle.std.proofs.Common.{◌≡◌, ℕ, ◌<◌, ◌≤◌, ◌⊎◌, List, ◌++◌, length, Some, None, Ok, Err, Option, Result, sym, refl, ap, ◌∙◌, subst, inl, inr, arith}
+use Rattle.std.proofs.Common.{◌≡◌, ℕ, ◌<◌, ◌⊎◌, List, ◌++◌, length, Some, None, Ok, Err, Option, sym, refl, ap, ◌∙◌, subst, inl, inr, arith}
 use Rattle.std.proofs.lemmas.List.{take-append-drop}
 use Rattle.std.proofs.lemmas.Bool.{cases_lt}
 use Rattle.refusals.specs.declared.Refusal.{Refusal}
 use Rattle.refusals.specs.declared.Refusal.TheVariants.{PageNotOwned}
 use Rattle.ledger.specs.declared.owned.OwnedPages.{OwnedPages}
 use Rattle.ledger.specs.declared.row.Row.{Row}
-use Rattle.ledger.specs.Laws.{Larger, CausesGrow}
+use Rattle.ledger.specs.Laws.{CausesGrow}
 use Rattle.ledger.specs.Verdicts.{Surveyed, Clear, CauseAt, outside, undefined, mixed, misplaced, written, Because, early, deep, foreign}
 use Rattle.ledger.proofs.Uniqueness.{ledger_laws}
 use Rattle.inspection.specs.declared.passed.PassedImage.{PassedImage}
 use Rattle.inspection.specs.First.{FirstAt}
-use Rattle.inspection.specs.Inspects.{front, Passes, Caused, Answered, Inspects, verdict_of, OneVerdict}
+use Rattle.inspection.specs.Inspects.{front, Caused, Answered, OneVerdict}
 use Rattle.inspection.specs.Obstacles.{Unobstructed, Obstructed, length_of_image, word_too_large, pages_of_nobody, few_rows}
 
 pub none_some : {X : Type 0} {o : Option X} {x : X} → o ≡ None → o ≡ Some x → ⊥

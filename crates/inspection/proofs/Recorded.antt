@@ -1,25 +1,24 @@
 -- What rows say that record the smallest facts. Assumes nothing.
-use Rattle.std.proofs.Common.{◌≡◌, ℕ, ◌+◌, ◌<◌, ◌≤◌, Bool, true, false, cond, not, ◌||◌, ◌⊎◌, List, map, length, get_or, sym, refl, ap, ◌∙◌, subst, inl, inr, ⊎_elim, arith}
+use Rattle.std.proofs.Common.{◌≡◌, ℕ, ◌<◌, ◌≤◌, Bool, true, false, ◌||◌, List, map, length, get_or, sym, refl, ap, ◌∙◌, inl, inr, ⊎_elim, arith}
 use Rattle.std.proofs.lemmas.List.FromFn.{get_or-map-range_with_len, length-map-range_with_len}
-use Rattle.std.proofs.lemmas.List.{get_or_past, length-map}
-use Rattle.std.proofs.lemmas.Bool.{both_ways, cases_Bool, cases_lt, cond-true, cond-false, or_cases, or_from, or_left, or_parts, or_right, false≢true, true≢false}
+use Rattle.std.proofs.lemmas.List.{get_or_past}
+use Rattle.std.proofs.lemmas.Bool.{cases_lt, cond-true, cond-false, or_cases, or_from, or_left, or_parts, or_right, true≢false}
 use Rattle.std.specs.List.{range_with_len}
 use Rattle.facts.specs.declared.marks.FrameMarks.{FrameMarks}
 use Rattle.facts.specs.declared.spans.PageSpans.{PageSpans}
 use Rattle.facts.specs.declared.spans.PageSpans.TheVariants.{Nothing, Spans}
 use Rattle.facts.specs.Marks.{marks, unmarked}
 use Rattle.facts.specs.Spans.{point, spans}
-use Rattle.facts.specs.Tables.{fact_at, summary, Agree, Smallest, known, marked}
+use Rattle.facts.specs.Tables.{fact_at, summary, Smallest, known}
 use Rattle.facts.proofs.Lasting.{marks_laws, spans_where_marked}
 use Rattle.facts.specs.SpansLaws.{spans_laws}
 use Rattle.facts.proofs.Tables.{smallest_agree, summary_agree}
 use Rattle.ledger.specs.declared.row.Row.{Row}
 use Rattle.ledger.specs.Interrupts.{outermost, handler_start}
 use Rattle.ledger.specs.Ledgers.{zero_spans}
-use Rattle.ledger.specs.Rows.{any_frame, blank_row, main_at, handler_at, spans_at, need_at, all_spans, mains, handlers, page_spans, needs, spans_of, MainMarked, Marked}
+use Rattle.ledger.specs.Rows.{any_frame, blank_row, main_at, handler_at, spans_at, need_at, all_spans, mains, handlers, page_spans, spans_of, MainMarked, Marked}
 use Rattle.ledger.specs.Verdicts.{Surveyed}
 use Rattle.ledger.proofs.RowFacts.{main_at_lem, handler_at_lem, spans_at_lem, need_at_lem}
-use Rattle.inspection.specs.Looking.{either_marked}
 use Rattle.inspection.specs.Needing.{marked_in}
 use Rattle.inspection.specs.Recording.{row_of, row_in, Records}
 use Rattle.inspection.proofs.Shallow.{known_marked}

@@ -1,7 +1,7 @@
 -- What the search for foreign pages finds, or does not find, at an address. Assumes nothing.
 use Rattle.std.proofs.Common.{◌≡◌, ℕ, ◌<◌, Bool, true, false, cond, not, ◌&&◌, ◌||◌, ◌⊎◌, List, length, get_or, Some, None, Option, sym, refl, ap, ◌∙◌, subst, inl, inr, ⊎_elim, arith}
 use Rattle.std.proofs.lemmas.List.{get_or_read}
-use Rattle.std.proofs.lemmas.Bool.{and_from, and_parts, both_ways, cases_Bool, cond-false, false≢true, not_from_false, not-true, or_cases, or_left, or_right}
+use Rattle.std.proofs.lemmas.Bool.{and_from, and_parts, cond-false, false≢true, not_from_false, not-true, or_cases, or_left, or_right}
 use Rattle.refusals.specs.declared.Refusal.{Refusal}
 use Rattle.refusals.specs.declared.Refusal.TheVariants.{PageNotOwned}
 use Rattle.words.specs.declared.instruction.Instruction.{Instruction}
@@ -14,7 +14,7 @@ use Rattle.ledger.specs.declared.owned.OwnedPages.{OwnedPages}
 use Rattle.ledger.specs.declared.row.Row.{Row}
 use Rattle.ledger.specs.Causes.{instruction_at, ForeignPage}
 use Rattle.ledger.specs.Pages.{reaches_memory, inside_owned}
-use Rattle.ledger.specs.Rows.{any_frame, main_at, handler_at, spans_at, all_spans, MainMarked, HandlerMarked}
+use Rattle.ledger.specs.Rows.{any_frame, main_at, handler_at, spans_at, all_spans}
 use Rattle.inspection.specs.Looking.{reaching, strays, foreign_of, foreign_in}
 use Rattle.inspection.proofs.Choosing.{cond_some}
 

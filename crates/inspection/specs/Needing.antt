@@ -7,7 +7,7 @@
 --   Asks        what the successors of an address ask for
 --   Lifts       needs only rise, and stay below every list that is enough
 --   Settled     the least needs
-use Rattle.std.specs.Prelude.{◌≡◌, ℕ, ◌+◌, ◌<◌, ◌≤◌, min, max, Bool, true, false, cond, List, length, Some, None, Option, nat_le, slice_index}
+use Rattle.std.specs.Prelude.{◌≡◌, ℕ, ◌+◌, ◌<◌, ◌≤◌, min, max, Bool, true, false, List, length, Some, None, Option, nat_le, slice_index}
 use Rattle.words.specs.declared.instruction.Instruction.{Instruction}
 use Rattle.facts.specs.declared.marks.FrameMarks.{FrameMarks}
 use Rattle.facts.specs.Kinds.{Kind}

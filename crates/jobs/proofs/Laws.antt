@@ -1,12 +1,12 @@
 -- Bytes have one meaning at most, and a job that is written down reads back as that job. Assumes nothing.
-use Rattle.std.proofs.Common.{◌≡◌, ℕ, ◌+◌, ◌-◌, ◌*◌, ◌^◌, ◌<◌, ◌≤◌, Bool, true, false, cond, ltb, List, [], ◌∷◌, ◌++◌, map, length, sym, refl, ap, ◌∙◌, subst, ⊎_elim, append_assoc, append-nil, arith, length-append}
+use Rattle.std.proofs.Common.{◌≡◌, ℕ, ◌+◌, ◌-◌, ◌*◌, ◌^◌, ◌<◌, Bool, true, false, cond, ltb, List, [], ◌∷◌, ◌++◌, map, length, sym, refl, ap, ◌∙◌, subst, append_assoc, append-nil, arith, length-append}
 use Rattle.std.proofs.ByRecursion.{All-append}
 use Rattle.std.proofs.lemmas.Bool.{lt-ltb}
 use Rattle.std.specs.List.{flat_map, AllByRecursion as All}
 use Rattle.ledger.specs.declared.owned.OwnedPages.{OwnedPages}
 use Rattle.jobs.specs.declared.record.Record.{Record}
 use Rattle.jobs.specs.declared.record.Record.TheVariants.{Pages, Word, Tick}
-use Rattle.jobs.specs.Jobs.{Front, Within, Longest, Reading, accepted, verdict, Read, Means, Storable, written_job, ReadingLaws, pages_from, pages_of, words_of, ticks_of}
+use Rattle.jobs.specs.Jobs.{Within, Longest, Reading, accepted, verdict, Read, Storable, written_job, ReadingLaws, pages_from, words_of, ticks_of}
 use Rattle.jobs.specs.Records.{written, Writable}
 use Rattle.jobs.proofs.Prefix.{same_record}
 use Rattle.jobs.proofs.Sofar.{words_append, ticks_append, pages_append}

@@ -1,8 +1,8 @@
 -- No record's bytes are the front of another's, so bytes can be cut into records in one way only. Assumes nothing.
-use Rattle.std.proofs.Common.{◌≡◌, ℕ, ◌+◌, ◌*◌, ◌/◌, ◌%◌, ◌^◌, ◌<◌, List, [], ◌∷◌, ◌++◌, sym, refl, ap, ◌∙◌, subst, arith}
+use Rattle.std.proofs.Common.{◌≡◌, ℕ, ◌/◌, ◌%◌, List, ◌∷◌, ◌++◌, arith}
 use Rattle.jobs.specs.declared.record.Record.{Record}
 use Rattle.jobs.specs.declared.record.Record.TheVariants.{Pages, Word, Tick}
-use Rattle.jobs.specs.Records.{written, Writable}
+use Rattle.jobs.specs.Records.{written}
 
 same_two : (m n : ℕ) → m / 256 ≡ n / 256 → m % 256 ≡ n % 256 → m ≡ n
 same_two m n p q = grind arith

@@ -1,21 +1,18 @@
 -- What one turn of reading keeps: the job holds the records taken off so far. Assumes nothing.
-use Rattle.std.proofs.Common.{◌≡◌, ℕ, ◌+◌, ◌-◌, ◌^◌, ◌<◌, ◌≤◌, List, [], ◌∷◌, ◌++◌, length, Ok, Err, vec_items, sym, refl, ap, ◌∙◌, subst, append_assoc, append-nil, arith, length-append}
+use Rattle.std.proofs.Common.{◌≡◌, ℕ, ◌+◌, ◌-◌, ◌^◌, ◌<◌, List, [], ◌∷◌, ◌++◌, length, Err, vec_items, sym, refl, ap, ◌∙◌, subst, append_assoc, arith, length-append}
 use Rattle.std.specs.List.{flat_map}
 use Rattle.std.proofs.ByRecursion.{All-push}
 use Rattle.std.proofs.lemmas.List.{flat_map_more}
 use Rattle.std.proofs.lemmas.Bool.{lt-ltb}
-use Rattle.refusals.specs.declared.Refusal.{Refusal}
 use Rattle.refusals.specs.declared.Refusal.TheVariants.{TooManyRecords}
 use Rattle.jobs.specs.declared.job.Job.{Job}
 use Rattle.jobs.specs.declared.job.JobError.{JobError}
 use Rattle.jobs.specs.declared.job.JobError.TheVariants.{Refused, OutOfMemory}
 use Rattle.ledger.specs.declared.owned.OwnedPages.{OwnedPages}
-use Rattle.jobs.specs.declared.reader.Reader.{Reader}
 use Rattle.jobs.specs.declared.record.Record.{Record}
 use Rattle.jobs.specs.declared.record.Record.TheVariants.{Pages, Word, Tick}
 use Rattle.jobs.specs.Jobs.{Front, Within, Room, Grown, Adds, Read, Means, Starved, Answers, refused, pages_from, pages_of, words_of, ticks_of}
 use Rattle.jobs.specs.Records.{written, Writable}
-use Rattle.jobs.specs.Taking.{Takes}
 use Rattle.jobs.proofs.Verdicts.{full_longest, full_told}
 
 pub record Sofar (bytes : List ℕ) (job : Job) (rest : List ℕ) (place : ℕ) : Type 0 where

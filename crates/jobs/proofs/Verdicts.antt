@@ -1,13 +1,11 @@
 -- Where no further record can be taken, and what is said there. Assumes nothing.
-use Rattle.std.proofs.Common.{◌≡◌, ℕ, ◌+◌, ◌-◌, ◌^◌, ◌<◌, ◌≤◌, true, cond, eqb, ltb, List, [], ◌∷◌, ◌++◌, length, get_or, sym, refl, ap, ◌∙◌, subst, arith}
+use Rattle.std.proofs.Common.{◌≡◌, ℕ, ◌<◌, ◌≤◌, List, [], ◌∷◌, ◌++◌, length, get_or, sym, ◌∙◌, subst, arith}
 use Rattle.std.proofs.lemmas.Bool.Decides.{nat_tests}
-use Rattle.std.specs.List.{AllByRecursion as All}
-use Rattle.refusals.specs.declared.Refusal.{Refusal}
-use Rattle.refusals.specs.declared.Refusal.TheVariants.{UnknownKind, RecordCutOff, TooManyRecords, JobTooLong}
+use Rattle.refusals.specs.declared.Refusal.TheVariants.{UnknownKind, RecordCutOff, TooManyRecords}
 use Rattle.jobs.specs.declared.record.Record.{Record}
 use Rattle.jobs.specs.declared.record.Record.TheVariants.{Pages, Word, Tick}
-use Rattle.jobs.specs.Records.{written, Writable, size_of, Unknown, CutOff}
-use Rattle.jobs.specs.Jobs.{Within, Longest, verdict, accepted, refused}
+use Rattle.jobs.specs.Records.{written, size_of, Unknown, CutOff}
+use Rattle.jobs.specs.Jobs.{Within, Longest, verdict, refused}
 use Rattle.jobs.proofs.Prefix.{same_record}
 
 pub none_left : (records : List Record) → Longest records []

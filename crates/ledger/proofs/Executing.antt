@@ -11,7 +11,7 @@ use Rattle.machine.specs.declared.stack.Entry.{Entry}
 use Rattle.machine.specs.Arithmetic.{operated, settled, rotated, flagged}
 use Rattle.machine.specs.Calls.{Poke}
 use Rattle.machine.specs.Cores.{Core, register, page_of, at, pushed, with_register, with_stack, with_flags, with_interrupts}
-use Rattle.machine.specs.Moves.{Moved, target, reached, holds, passed, jumped, called, returned, interrupt_returned}
+use Rattle.machine.specs.Moves.{Moved, reached, holds, passed, jumped, called, returned, interrupt_returned}
 use Rattle.machine.specs.Steps.{Outcome, execute, transferred, export_of, went, moving, onward}
 use Rattle.machine.specs.Ticks.{port_byte}
 use Rattle.facts.specs.declared.interval.Interval.{Interval}

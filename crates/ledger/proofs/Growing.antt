@@ -1,7 +1,7 @@
 -- Each cause that rows have, larger rows have too; so an image that has a cause in its smallest rows has no ledger. Assumes nothing.
-use Rattle.std.proofs.Common.{◌≡◌, ℕ, ◌+◌, ◌*◌, ◌<◌, ◌≤◌, Bool, true, false, cond, ◌⊎◌, List, map, length, get_or, sym, refl, ap, ◌∙◌, subst, inl, inr, ⊎_elim, arith}
+use Rattle.std.proofs.Common.{◌≡◌, ℕ, ◌+◌, ◌*◌, ◌≤◌, Bool, true, false, cond, List, map, length, get_or, refl, inl, inr, ⊎_elim, arith}
 use Rattle.std.proofs.lemmas.List.{get_or_past, length-map}
-use Rattle.std.proofs.lemmas.Bool.{and_from, and_parts, both_ways, cases_Bool, cases_lt, false≢true, le-leb, leb-true, true≢false}
+use Rattle.std.proofs.lemmas.Bool.{and_from, and_parts, both_ways, cases_Bool, cases_lt, false≢true, le-leb, leb-true}
 use Rattle.facts.specs.declared.marks.FrameMarks.{FrameMarks}
 use Rattle.facts.specs.declared.spans.PageSpans.{PageSpans}
 use Rattle.facts.specs.declared.spans.PageSpans.TheVariants.{Nothing, Spans}
@@ -14,11 +14,11 @@ use Rattle.facts.proofs.Summaries.{summary_mono}
 use Rattle.refusals.specs.declared.Refusal.{Refusal}
 use Rattle.ledger.specs.declared.owned.OwnedPages.{OwnedPages}
 use Rattle.ledger.specs.declared.row.Row.{Row}
-use Rattle.ledger.specs.Causes.{LeadsOutside, Undefined, Mixed, MixedFrames, MisplacedReturn, WritesPageRegister, ForeignPage}
+use Rattle.ledger.specs.Causes.{Mixed, MisplacedReturn, ForeignPage}
 use Rattle.ledger.specs.Interrupts.{interruptible}
 use Rattle.ledger.specs.Laws.{Larger, CausesGrow}
 use Rattle.ledger.specs.Ledgers.{Ledger}
-use Rattle.ledger.specs.Needs.{TooDeep, deepest, depth}
+use Rattle.ledger.specs.Needs.{deepest, depth}
 use Rattle.ledger.specs.Pages.{inside_owned}
 use Rattle.ledger.specs.Rows.{any_frame, main_at, handler_at, spans_at, all_spans, mains, handlers, page_spans, needs, spans_of, MainMarked, HandlerMarked, Marked}
 use Rattle.ledger.specs.Verdicts.{Surveyed, CauseAt, outside, undefined, mixed, misplaced, written, Because, early, deep, foreign, SmallestLedger, NoLedger}

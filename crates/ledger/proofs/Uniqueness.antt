@@ -1,12 +1,10 @@
 -- The smallest ledger is one, and stays the smallest where more pages are owned. Assumes nothing.
-use Rattle.std.proofs.Common.{◌≡◌, ℕ, ◌+◌, ◌*◌, ◌<◌, ◌≤◌, true, false, cond, List, length, get_or, sym, refl, ap, ◌∙◌, subst, inl, inr, ⊎_elim, arith}
+use Rattle.std.proofs.Common.{◌≡◌, ℕ, ◌+◌, ◌*◌, ◌<◌, ◌≤◌, true, false, List, length, get_or, sym, refl, ap, ◌∙◌, subst, inl, inr, ⊎_elim, arith}
 use Rattle.std.proofs.lemmas.List.{ext_get_or}
-use Rattle.std.proofs.lemmas.Bool.{and_from, and_parts, both_ways, cases_Bool, cond-true, le-leb, leb-true, true≢false}
+use Rattle.std.proofs.lemmas.Bool.{and_from, and_parts, both_ways, cases_Bool, cond-true, le-leb, leb-true}
 use Rattle.facts.specs.declared.interval.Interval.{Interval}
 use Rattle.facts.specs.declared.spans.PageSpans.{PageSpans}
 use Rattle.facts.specs.declared.spans.PageSpans.TheVariants.{Nothing, Spans}
-use Rattle.facts.specs.Spans.{point}
-use Rattle.facts.specs.Marks.{marks}
 use Rattle.facts.proofs.Lasting.{marks_laws}
 use Rattle.facts.specs.SpansLaws.{spans_laws}
 use Rattle.facts.proofs.Theorems.{smallest_laws}
@@ -15,9 +13,9 @@ use Rattle.ledger.specs.declared.row.Row.{Row}
 use Rattle.ledger.specs.Causes.{ForeignPage}
 use Rattle.ledger.specs.Interrupts.{outermost, handler_start}
 use Rattle.ledger.specs.Laws.{LedgerLaws}
-use Rattle.ledger.specs.Ledgers.{Ledger, zero_spans}
+use Rattle.ledger.specs.Ledgers.{zero_spans}
 use Rattle.ledger.specs.Pages.{inside_owned}
-use Rattle.ledger.specs.Rows.{any_frame, blank_row, main_at, handler_at, spans_at, need_at, mains, handlers, page_spans, needs, spans_of, Marked}
+use Rattle.ledger.specs.Rows.{any_frame, blank_row, mains, handlers, page_spans, needs, spans_of}
 use Rattle.ledger.specs.Verdicts.{SmallestLedger}
 use Rattle.ledger.proofs.Growing.{causes_grow, marked_grows, surveyed_larger}
 use Rattle.ledger.proofs.RowFacts.{main_at_lem, handler_at_lem, spans_at_lem, need_at_lem}

@@ -9,7 +9,7 @@ use Rattle.std.specs.List.{AllByRecursion as All}
 use Rattle.refusals.specs.declared.Refusal.{Refusal}
 use Rattle.refusals.specs.declared.Refusal.TheVariants.{ExportsFull}
 use Rattle.memories.specs.Meaning.{Meaning}
-use Rattle.machine.specs.Calls.{Call, State, Poke, Fits, Reached, performs, last_poked}
+use Rattle.machine.specs.Calls.{Call, Poke, Fits, Reached, performs, last_poked}
 use Rattle.machine.specs.Cores.{Core}
 use Rattle.machine.specs.Runs.{ran}
 use Rattle.machine.specs.Steps.{stopped, step}

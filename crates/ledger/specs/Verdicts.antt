@@ -17,8 +17,8 @@ use Rattle.ledger.specs.declared.row.Row.{Row}
 use Rattle.ledger.specs.Causes.{LeadsOutside, Undefined, MixedFrames, MisplacedReturn, WritesPageRegister, ForeignPage}
 use Rattle.ledger.specs.Interrupts.{outermost, handler_start}
 use Rattle.ledger.specs.Ledgers.{Ledger, zero_spans}
-use Rattle.ledger.specs.Needs.{Suffices, TooDeep, depth}
-use Rattle.ledger.specs.Rows.{MainMarked, Marked, blank_row, mains, handlers, page_spans, needs, need_at}
+use Rattle.ledger.specs.Needs.{Suffices, TooDeep}
+use Rattle.ledger.specs.Rows.{MainMarked, Marked, blank_row, mains, handlers, page_spans, need_at}
 
 pub record Surveyed (image : List ℕ) (rows : List Row) : Type 0 where
   -- a row for each word

@@ -1,10 +1,10 @@
 -- The laws of whole steps and runs hold. Assumes nothing.
-use Rattle.std.proofs.Common.{◌≡◌, ℕ, ◌+◌, ◌-◌, ◌*◌, ◌<◌, ◌≤◌, Bool, true, false, cond, not, ◌&&◌, ltb, leb, ◌⊎◌, List, [], ◌∷◌, ◌++◌, length, get_or, set, Some, None, Option, sym, refl, ap, ◌∙◌, subst, inl, inr, append_assoc, zero-add, arith, length-append}
+use Rattle.std.proofs.Common.{◌≡◌, ℕ, ◌+◌, ◌-◌, ◌*◌, ◌≤◌, ltb, List, [], ◌∷◌, ◌++◌, length, Some, None, Option, sym, refl, ap, ◌∙◌, subst, zero-add, arith, length-append}
 use Rattle.refusals.specs.declared.Refusal.{Refusal}
-use Rattle.memories.specs.Meaning.{Meaning, poked}
+use Rattle.memories.specs.Meaning.{Meaning}
 use Rattle.machine.specs.Cores.{Core}
 use Rattle.machine.specs.Laws.{MachineLaws, OneCell, OneRegister}
-use Rattle.machine.specs.Runs.{Ran, ran, ended, later, list_of}
+use Rattle.machine.specs.Runs.{Ran, ran, later, list_of}
 use Rattle.machine.specs.Steps.{Outcome, stopped, went, step}
 use Rattle.machine.proofs.Locality.{step_local}
 use Rattle.machine.proofs.Outcomes.{Every, Usual, step_usual}

@@ -1,7 +1,6 @@
 -- A step changes at most one cell and at most one register. Assumes nothing.
-use Rattle.std.proofs.Common.{◌≡◌, ℕ, Bool, true, false, cond, ltb, List, [], length, get_or, ℤ, Some, None, Ok, Err, Option, Result, refl, inl, inr, arith}
+use Rattle.std.proofs.Common.{◌≡◌, ℕ, Bool, true, false, cond, ltb, List, length, get_or, ℤ, Some, None, Ok, Err, Option, Result, refl, inl, inr, arith}
 use Rattle.refusals.specs.declared.Refusal.{Refusal}
-use Rattle.words.specs.declared.codes.Condition.{Condition}
 use Rattle.words.specs.declared.codes.FlagChange.{FlagChange}
 use Rattle.words.specs.declared.codes.FlagChange.TheVariants.{Clrc, Setc, Clrz, Setz, Clri, Seti}
 use Rattle.words.specs.declared.codes.Operation.{Operation}
@@ -18,7 +17,7 @@ use Rattle.machine.specs.Cores.{Core, page_of, at}
 use Rattle.machine.specs.Laws.{OneCell, OneRegister}
 use Rattle.machine.specs.Moves.{Moved, unless, going, back, after, target, way_back, holds, passed, jumped, called, returned, interrupt_returned, interrupts, entered}
 use Rattle.machine.specs.Steps.{moving, transferred, execute, execute_at, step}
-use Rattle.machine.proofs.Outcomes.{Every, every_only, every_moving, every_onward, every_choice}
+use Rattle.machine.proofs.Outcomes.{Every, every_only, every_onward, every_choice}
 
 -- holds of the core that a move leads to
 abbrev pub EveryMoved : (Core → Type 0) → Moved → Type 0

@@ -1,5 +1,5 @@
 -- The list of a stack's entries, as entries are pushed and popped. Assumes nothing.
-use Rattle.std.proofs.Common.{◌≡◌, ℕ, zero, suc, ◌+◌, ◌-◌, ◌<◌, ◌≤◌, ◌≢◌, List, [], ◌∷◌, length, get_or, set, Some, None, sym, refl, ap, ◌∙◌, add-one, sub-one, arith, get_or-set_other, get_or-set_same}
+use Rattle.std.proofs.Common.{◌≡◌, ℕ, zero, suc, ◌+◌, ◌-◌, ◌<◌, ◌≤◌, ◌≢◌, List, ◌∷◌, length, get_or, set, Some, refl, ap, add-one, arith, get_or-set_other, get_or-set_same}
 use Rattle.machine.specs.declared.stack.Entry.{Entry}
 use Rattle.machine.specs.Stacks.{blank, newest_first, top_of, rest_of}
 

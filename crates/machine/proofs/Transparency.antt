@@ -1,14 +1,14 @@
 -- An interrupt whose handler only returns gives all back. Assumes nothing.
-use Rattle.std.proofs.Common.{◌≡◌, ℕ, ◌<◌, Bool, true, false, cond, not, ◌&&◌, ltb, List, [], ◌∷◌, length, get_or, Some, None, Ok, Err, Option, sym, refl, ap, ◌∙◌, subst, arith}
-use Rattle.std.proofs.lemmas.Bool.{and_parts, not-true, and_right, ltb-true, lt-ltb, cond-true, cond-false}
+use Rattle.std.proofs.Common.{◌≡◌, ℕ, Bool, true, false, cond, not, ltb, List, length, get_or, Some, None, Ok, Err, Option, sym, refl, subst, arith}
+use Rattle.std.proofs.lemmas.Bool.{and_parts, not-true, and_right, ltb-true, lt-ltb}
 use Rattle.refusals.specs.declared.Refusal.TheVariants.{PcOutside, StackFull}
 use Rattle.words.specs.declared.instruction.Instruction.TheVariants.{ReturnFromInterrupt}
 use Rattle.words.specs.Decoding.{instruction_of}
 use Rattle.memories.specs.Meaning.{Meaning}
 use Rattle.machine.specs.Cores.{Core, at, pushed, with_interrupts}
-use Rattle.machine.specs.Moves.{interrupts, entered}
+use Rattle.machine.specs.Moves.{interrupts}
 use Rattle.machine.specs.Ticks.{line}
-use Rattle.machine.specs.Steps.{Outcome, stopped, went, moving, only, execute_at, step}
+use Rattle.machine.specs.Steps.{Outcome, went, moving, only, step}
 
 -- what an entry leaves
 abbrev in_handler : Core → Core

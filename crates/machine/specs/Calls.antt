@@ -6,11 +6,11 @@
 --   Fits        the page, offset and byte of a call fit their types
 --   Reached     the states that steps, resets and pokes reach from a newly reset board, with the pokes so far, the newest
 --               first. It takes steps at any tick, so no list of calls leads anywhere else
-use Rattle.std.specs.Prelude.{◌≡◌, ℕ, ◌<◌, Bool, cond, ◌&&◌, List, [], ◌∷◌, length, Some, None, Option, ◌==◌, nat_lt}
+use Rattle.std.specs.Prelude.{◌≡◌, ℕ, ◌<◌, Bool, cond, ◌&&◌, List, [], ◌∷◌, Some, None, Option, ◌==◌, nat_lt}
 use Rattle.refusals.specs.declared.Refusal.{Refusal}
 use Rattle.memories.specs.Meaning.{Meaning, poked}
 use Rattle.machine.specs.Cores.{Core, fresh}
-use Rattle.machine.specs.Runs.{Ran, ended, ran, hindered, lone}
+use Rattle.machine.specs.Runs.{Ran, ran, hindered, lone}
 use Rattle.machine.specs.Steps.{Outcome, stopped, went, step}
 
 pub data Call : Type 0 where

@@ -1,5 +1,5 @@
 -- What the board holds beside the memory, and how its parts are read and changed. Assumes nothing.
-use Rattle.std.specs.Prelude.{ℕ, ◌+◌, ◌*◌, Bool, true, false, List, [], ◌∷◌, replicate, slice_index, slice_set}
+use Rattle.std.specs.Prelude.{ℕ, ◌+◌, ◌*◌, Bool, false, List, [], ◌∷◌, replicate, slice_index, slice_set}
 use Rattle.machine.specs.declared.board.Board.{Board}
 use Rattle.machine.specs.declared.stack.Entry.{Entry}
 use Rattle.machine.specs.Stacks.{stack_of}

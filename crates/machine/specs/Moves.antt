@@ -1,5 +1,5 @@
 -- Where control goes: to an address of the image, through the call stack, into and out of an interrupt. Assumes nothing.
-use Rattle.std.specs.Prelude.{◌≡◌, ℕ, ◌+◌, Bool, true, false, cond, not, ◌&&◌, List, [], ◌∷◌, length, ℤ, pos, Some, None, Ok, Err, Option, Result, nat_lt}
+use Rattle.std.specs.Prelude.{◌≡◌, ℕ, ◌+◌, Bool, true, false, cond, not, ◌&&◌, [], ◌∷◌, length, ℤ, pos, Some, None, Ok, Err, Option, Result, nat_lt}
 use Rattle.refusals.specs.declared.Refusal.{Refusal}
 use Rattle.refusals.specs.declared.Refusal.TheVariants.{NotInService, StackEmpty, NextOutside, StackFull}
 use Rattle.words.specs.declared.codes.Condition.{Condition}

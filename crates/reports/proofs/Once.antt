@@ -1,5 +1,5 @@
 -- The bytes of a job come to one outcome, which is told in one way. Assumes nothing.
-use Rattle.std.proofs.Common.{◌≡◌, ℕ, List, replicate, Result, sym, ap, ◌∙◌, subst}
+use Rattle.std.proofs.Common.{◌≡◌, ℕ, List, Result, sym, ap, ◌∙◌, subst}
 use Rattle.refusals.specs.declared.Refusal.{Refusal}
 use Rattle.memories.specs.Kinds.{of_bytes}
 use Rattle.machine.specs.declared.report.RunReport.{RunReport}

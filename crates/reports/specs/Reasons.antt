@@ -3,7 +3,6 @@ use Rattle.std.specs.Prelude.{ℕ, List, [], ◌∷◌, ◌++◌, Some, None, Ok
 use Rattle.refusals.specs.declared.Refusal.{Refusal}
 use Rattle.refusals.specs.Sentences.{sentence}
 use Rattle.machine.specs.declared.report.RunReport.{RunReport}
-use Rattle.reports.specs.declared.outcome.JobReport.{JobReport}
 use Rattle.reports.specs.declared.outcome.JobOutcome.{JobOutcome}
 use Rattle.reports.specs.declared.outcome.JobOutcome.TheVariants.{CarriedOut, Refused}
 

@@ -3,7 +3,6 @@ use Rattle.std.specs.Prelude.{◌≡◌, ℕ, List}
 use Rattle.jobs.specs.Jobs.{Reading, accepted, refused, Means}
 use Rattle.reports.specs.declared.outcome.JobOutcome.{JobOutcome}
 use Rattle.reports.specs.declared.outcome.JobOutcome.TheVariants.{CarriedOut, Refused}
-use Rattle.reports.specs.declared.outcome.JobReport.{JobReport}
 use Rattle.reports.specs.Carrying.{CarriesOut}
 use Rattle.reports.specs.Text.{outcome_text}
 

@@ -1,11 +1,9 @@
 -- Why a trial of a certified image meets no fault. Assumes nothing.
-use Rattle.std.proofs.Common.{◌≡◌, ℕ, ◌<◌, ◌≤◌, Bool, true, false, cond, leb, List, [], ◌∷◌, length, get_or, take, Some, None, Option, sym, refl, ap, ◌∙◌, subst, arith}
+use Rattle.std.proofs.Common.{◌≡◌, ℕ, ◌≤◌, Bool, true, false, cond, leb, List, [], ◌∷◌, length, get_or, take, Some, None, Option, sym, refl, ap, ◌∙◌, subst, arith}
 use Rattle.std.proofs.ByRecursion.{All-take}
-use Rattle.std.proofs.lemmas.List.{take_all}
 use Rattle.std.proofs.lemmas.Bool.{true≢false}
-use Rattle.std.specs.List.{AllByRecursion as All}
 use Rattle.refusals.specs.declared.Refusal.{Refusal}
-use Rattle.refusals.specs.declared.Refusal.TheVariants.{ImageLength, TooManyTicks, TickTooLarge, ExportsFull}
+use Rattle.refusals.specs.declared.Refusal.TheVariants.{ImageLength, TooManyTicks, ExportsFull}
 use Rattle.refusals.specs.Numbers.{number_of}
 use Rattle.memories.specs.Meaning.{Meaning}
 use Rattle.machine.specs.Calls.{Call, stepping, running, resetting, counting, peeking, poking, State, Poke, Fits}
@@ -18,8 +16,8 @@ use Rattle.ledger.specs.Limits.{SafeWithin, SafeImageWithin}
 use Rattle.ledger.specs.Safety.{Provides, start}
 use Rattle.ledger.proofs.Performing.{safe_image}
 use Rattle.calls.specs.declared.answer.Answer.{Answer}
-use Rattle.calls.specs.declared.answer.Answer.TheVariants.{Run, Reset}
-use Rattle.calls.specs.Answering.{answer_of, step_answer, run_answer, report_of}
+use Rattle.calls.specs.declared.answer.Answer.TheVariants.{Run}
+use Rattle.calls.specs.Answering.{answer_of, step_answer, run_answer}
 use Rattle.calls.specs.Performing.{PerformsAll}
 use Rattle.inspection.specs.declared.passed.PassedImage.{PassedImage}
 use Rattle.inspection.specs.Inspects.{Certified}

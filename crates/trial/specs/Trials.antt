@@ -8,7 +8,6 @@ use Rattle.refusals.specs.declared.Refusal.{Refusal}
 use Rattle.refusals.specs.Numbers.{number_of}
 use Rattle.memories.specs.Meaning.{Meaning}
 use Rattle.machine.specs.declared.report.RunReport.{RunReport}
-use Rattle.machine.specs.declared.step.Stepped.{Stepped}
 use Rattle.machine.specs.Calls.{Call, State, performs, last_poked}
 use Rattle.machine.specs.Runs.{ran}
 use Rattle.ledger.specs.declared.owned.OwnedPages.{OwnedPages}

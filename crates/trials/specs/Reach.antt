@@ -1,5 +1,5 @@
 -- The smallest kind of fact: whether an address can be reached at all. Assumes nothing.
-use Rattle.std.specs.Prelude.{Bool, true, false, cond, not, ◌||◌}
+use Rattle.std.specs.Prelude.{false, cond, not, ◌||◌}
 use Rattle.facts.specs.Kinds.{Kind}
 use Rattle.trials.specs.declared.reach.Reach.{Reach}
 

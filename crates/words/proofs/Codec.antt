@@ -1,17 +1,12 @@
 -- Each defined word is written by one valid instruction, and no other word is. Assumes nothing.
-use Rattle.std.proofs.Common.{◌≡◌, ℕ, ◌+◌, ◌-◌, ◌*◌, ◌/◌, ◌%◌, ◌^◌, ◌<◌, ◌≤◌, Bool, true, false, cond, eqb, ltb, ◌⊎◌, ℤ, pos, negsuc, IfSome, Some, None, Option, sym, refl, ap, ◌∙◌, subst, inl, inr, ⊎_elim, arith, MatchOption}
+use Rattle.std.proofs.Common.{◌≡◌, ℕ, ◌-◌, ◌/◌, ◌%◌, ◌^◌, ◌<◌, ◌⊎◌, ℤ, pos, negsuc, IfSome, Some, None, Option, sym, refl, ◌∙◌, subst, inl, inr, ⊎_elim, arith, MatchOption}
 use Rattle.std.proofs.lemmas.Bool.{cases_lt}
 use Rattle.std.proofs.lemmas.Bool.Decides.{nat_tests}
 use Rattle.words.specs.declared.codes.Condition.{Condition}
-use Rattle.words.specs.declared.codes.Condition.TheVariants.{Zero, NotZero, Carry, NotCarry}
 use Rattle.words.specs.declared.codes.FlagChange.{FlagChange}
-use Rattle.words.specs.declared.codes.FlagChange.TheVariants.{Clrc, Setc, Clrz, Setz, Clri, Seti}
 use Rattle.words.specs.declared.codes.Operation.{Operation}
-use Rattle.words.specs.declared.codes.Operation.TheVariants.{Sub, Subc, Add, Addc, Mov, And, Or, Xor, Cmp, Test}
 use Rattle.words.specs.declared.codes.Rotation.{Rotation}
-use Rattle.words.specs.declared.codes.Rotation.TheVariants.{Ror, Rol, Rorc, Rolc}
 use Rattle.words.specs.declared.codes.Transfer.{Transfer}
-use Rattle.words.specs.declared.codes.Transfer.TheVariants.{Export, Import, Store, Load}
 use Rattle.words.specs.declared.instruction.Instruction.{Instruction}
 use Rattle.words.specs.declared.instruction.Instruction.TheVariants.{Register, Immediate, Rotate, Flag, Direct, Indirect, BranchIf, CallIf, Call, Return, ReturnFromInterrupt, Branch}
 use Rattle.words.specs.Bits.{bits, InOffsetRange, offset_field}

@@ -1,5 +1,5 @@
 -- The text of an instruction: the mnemonic and operands of the maker's guide. Assumes nothing.
-use Rattle.std.specs.Prelude.{ℕ, cond, List, [], ◌++◌, ℤ, codes, decimal, nat_lt}
+use Rattle.std.specs.Prelude.{ℕ, cond, List, ◌++◌, codes, decimal, nat_lt}
 use Rattle.std.specs.Fmt.{signed_decimal}
 use Rattle.words.specs.declared.codes.Condition.{Condition}
 use Rattle.words.specs.declared.codes.Condition.TheVariants.{Zero, NotZero, Carry, NotCarry}

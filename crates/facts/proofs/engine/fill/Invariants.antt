@@ -1,4 +1,4 @@
-use Rattle.std.proofs.Common.{◌≡◌, ◌++◌, take, replicate}
+use Rattle.std.proofs.Common.{◌≡◌, take, replicate}
 use Rattle.facts.proofs.engine.fill.Given as goal
 
 abbrev pub invariant-loop-item : goal.invariant-loop-item

@@ -1,5 +1,4 @@
 use Rattle.std.proofs.Common.{sym, rules}
-use Rattle.facts.proofs.Rounding.{visits_more}
 use Rattle.facts.proofs.Settling.{settling_visits, settling_again, settles, total_falls}
 use Rattle.facts.proofs.engine.settle.Goals as goal
 

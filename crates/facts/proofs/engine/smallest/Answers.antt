@@ -1,4 +1,4 @@
-use Rattle.std.proofs.Common.{◌≡◌, length, sym, ap, ◌∙◌, arith, rules}
+use Rattle.std.proofs.Common.{◌≡◌, length, ◌∙◌, rules}
 use Rattle.std.proofs.lemmas.Slice.{overwrites}
 use Rattle.facts.proofs.Tables.{summary_agree, smallest_agree, append_agrees}
 use Rattle.facts.proofs.Theorems.{smallest_laws}

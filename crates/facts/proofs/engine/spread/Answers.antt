@@ -1,4 +1,4 @@
-use Rattle.std.proofs.Common.{◌≡◌, ◌<◌, length, sym, ◌∙◌, subst, arith, rules}
+use Rattle.std.proofs.Common.{rules}
 use Rattle.facts.proofs.Spreading.{within_below, spreads, spreads_none}
 use Rattle.facts.proofs.engine.spread.Goals as goal
 

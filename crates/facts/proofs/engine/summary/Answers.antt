@@ -1,5 +1,4 @@
-use Rattle.std.proofs.Common.{◌≡◌, ◌+◌, ◌-◌, ◌<◌, ◌≤◌, length, drop, sym, ap, ◌∙◌, subst, arith, rules}
-use Rattle.facts.specs.Tables.{summary}
+use Rattle.std.proofs.Common.{sym, ◌∙◌, arith, rules}
 use Rattle.facts.proofs.Summaries.{summary_end, summary_named, summary_unnamed}
 use Rattle.facts.proofs.engine.summary.Goals as goal
 

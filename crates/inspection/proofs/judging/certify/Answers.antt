@@ -1,4 +1,4 @@
-use Rattle.std.proofs.Common.{◌≡◌, length, replicate, sym, ap, ◌∙◌, arith, rules}
+use Rattle.std.proofs.Common.{◌≡◌, length, replicate, sym, ap, ◌∙◌, rules}
 use Rattle.ledger.specs.Rows.{blank_row}
 use Rattle.inspection.proofs.Verdicts.{front_long, front_zeros, judged_err, judged_ok}
 use Rattle.inspection.proofs.judging.certify.Goals as goal

@@ -1,4 +1,4 @@
-use Rattle.std.proofs.Common.{◌≡◌, max, sym, ◌∙◌}
+use Rattle.std.proofs.Common.{sym}
 use Rattle.inspection.proofs.Asking.{asks, asks_none}
 use Rattle.inspection.proofs.needs.asked.Goals as goal
 

@@ -1,4 +1,3 @@
-use Rattle.std.proofs.Common.{arith}
 use Rattle.inspection.proofs.Lifting.{lifts_more, settles}
 use Rattle.inspection.proofs.needs.settle_needs.Goals as goal
 

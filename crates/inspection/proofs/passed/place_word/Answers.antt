@@ -1,4 +1,3 @@
-use Rattle.std.proofs.Common.{◌≡◌, ◌+◌, ◌*◌, ◌<◌, ◌≢◌, length, refl, ◌∙◌, ⊎_elim, arith, length-set}
 use Rattle.inspection.proofs.Placing.{placed}
 use Rattle.inspection.proofs.passed.place_word.Goals as goal
 

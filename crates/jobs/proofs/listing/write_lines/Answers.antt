@@ -1,4 +1,4 @@
-use Rattle.std.proofs.Common.{string_bytes, sym, subst, arith, take_all}
+use Rattle.std.proofs.Common.{string_bytes, subst, arith, take_all}
 use Rattle.jobs.specs.Listing.{Lines}
 use Rattle.jobs.proofs.Lines.{listed_more}
 use Rattle.jobs.proofs.listing.write_lines.Goals as goal

@@ -1,4 +1,4 @@
-use Rattle.std.proofs.Common.{length, vec_items, string_bytes, sym, ◌∙◌}
+use Rattle.std.proofs.Common.{vec_items, string_bytes, ◌∙◌}
 use Rattle.jobs.proofs.Lines.{listing_whole}
 use Rattle.jobs.proofs.listing.write_listing.Goals as goal
 

@@ -1,4 +1,4 @@
-use Rattle.std.proofs.Common.{◌≤◌, ◌⊎◌, length, string_bytes, arith}
+use Rattle.std.proofs.Common.{length, string_bytes, arith}
 use Rattle.tables.proofs.Lines.{left_more, left_none, short_of}
 use Rattle.tables.proofs.table.write_lines.Goals as goal
 

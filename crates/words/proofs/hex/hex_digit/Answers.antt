@@ -1,5 +1,5 @@
 -- Both kinds of digit are ASCII, so each is its own one byte of text.
-use Rattle.std.proofs.Common.{arith, rules}
+use Rattle.std.proofs.Common.{arith}
 use Rattle.std.proofs.lemmas.Str.Ascii.{encode_ascii}
 use Rattle.std.proofs.lemmas.Bool.Decides.{nat_tests}
 use Rattle.words.proofs.hex.hex_digit.Goals as goal

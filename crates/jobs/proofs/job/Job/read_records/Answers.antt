@@ -1,6 +1,4 @@
-use Rattle.std.proofs.Common.{sym, subst}
 use Rattle.std.proofs.lemmas.Result.{err_from_is_err_and}
-use Rattle.jobs.specs.Jobs.{Answers}
 use Rattle.jobs.proofs.Sofar.{one_more, not_added}
 use Rattle.jobs.proofs.job.Job.read_records.Goals as goal
 

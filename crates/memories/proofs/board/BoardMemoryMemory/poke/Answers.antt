@@ -1,5 +1,4 @@
 use Rattle.std.proofs.Common.{ap, arith}
-use Rattle.memories.specs.Frames.{BoardFrame}
 use Rattle.memories.proofs.Bytes.{of_bytes_set, tail_set}
 use Rattle.memories.proofs.board.BoardMemoryMemory.poke.Goals as goal
 

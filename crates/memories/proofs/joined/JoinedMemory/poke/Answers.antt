@@ -1,4 +1,4 @@
-use Rattle.std.proofs.Common.{ap, arith}
+use Rattle.std.proofs.Common.{arith}
 use Rattle.memories.proofs.Parts.{second_poked}
 use Rattle.memories.proofs.joined.JoinedMemory.poke.Goals as goal
 
