@@ -1,7 +1,7 @@
 -- Lists of calls: one call more at the end, and the calls before a place. Assumes nothing.
 use Rattle.std.proofs.Common.{◌≡◌, ℕ, zero, suc, ◌+◌, ◌<◌, List, [], ◌∷◌, ◌++◌, length, get_or, take, drop, set, sym, refl, ap, ◌∙◌, append_assoc, arith}
 use Rattle.std.proofs.lemmas.List.{take_more, drop_more, set_at, length_push, length-map, length-take-le, map-append, get_or_append_left}
-use Rattle.std.specs.List.{AllByRecursion as All}
+use Rattle.std.specs.List.{AllByRecursion}
 use Rattle.machine.specs.Calls.{Call, resetting, State, Fits, does, performs}
 use Rattle.calls.specs.declared.answer.Answer.{Answer}
 use Rattle.calls.specs.declared.answer.Answer.TheVariants.{Reset}
@@ -43,12 +43,12 @@ module _ (image : List ℕ) where
   answers_at (first ∷ calls) state zero h = refl
   answers_at (first ∷ calls) state (suc place) h = answers_at calls (does image first state) place (omega arith)
 
-fits_push : (calls : List Call) (call : Call) → All Fits calls → Fits call → All Fits (calls ++ call ∷ [])
+fits_push : (calls : List Call) (call : Call) → AllByRecursion Fits calls → Fits call → AllByRecursion Fits (calls ++ call ∷ [])
 fits_push [] call all fits = (fits, tt)
 fits_push (first ∷ calls) call all fits = (all.0, fits_push calls call all.1 fits)
 
 -- so the calls before a place may be looked at by themselves
-pub fits_take : (calls : List Call) (n : ℕ) → All Fits calls → All Fits (take n calls)
+pub fits_take : (calls : List Call) (n : ℕ) → AllByRecursion Fits calls → AllByRecursion Fits (take n calls)
 fits_take [] zero all = tt
 fits_take [] (suc n) all = tt
 fits_take (first ∷ calls) zero all = tt

@@ -3,7 +3,7 @@
 --   Performs       one call
 --   PerformsAll    a list of calls; what stood in the list of answers behind them stays
 use Rattle.std.specs.Prelude.{◌≡◌, ℕ, ◌<◌, List, ◌++◌, length, take, drop, slice_index_or}
-use Rattle.std.specs.List.{AllByRecursion as All}
+use Rattle.std.specs.List.{AllByRecursion}
 use Rattle.machine.specs.Calls.{Call, resetting, State, Fits, does, performs}
 use Rattle.calls.specs.declared.answer.Answer.{Answer}
 use Rattle.calls.specs.declared.answer.Answer.TheVariants.{Reset}
@@ -24,4 +24,4 @@ pub record PerformsAll (image : List ℕ) (calls : List Call) (before : State) (
   pub each : (place : ℕ)
       → place < length calls
       → slice_index_or answers' place Reset ≡ answer_of image (slice_index_or calls place resetting) (performs image (take place calls) before)
-  pub fits : All Fits calls
+  pub fits : AllByRecursion Fits calls

@@ -2,7 +2,7 @@
 use Rattle.std.proofs.Common.{◌≡◌, ℕ, ◌+◌, ◌-◌, ◌*◌, ◌^◌, ◌<◌, Bool, true, false, cond, ltb, List, [], ◌∷◌, ◌++◌, map, length, sym, refl, ap, ◌∙◌, subst, append_assoc, append-nil, arith, length-append}
 use Rattle.std.proofs.ByRecursion.{All-append}
 use Rattle.std.proofs.lemmas.Bool.{lt-ltb}
-use Rattle.std.specs.List.{flat_map, AllByRecursion as All}
+use Rattle.std.specs.List.{flat_map, AllByRecursion}
 use Rattle.ledger.specs.declared.owned.OwnedPages.{OwnedPages}
 use Rattle.jobs.specs.declared.record.Record.{Record}
 use Rattle.jobs.specs.declared.record.Record.TheVariants.{Pages, Word, Tick}
@@ -20,7 +20,7 @@ fewer front rest h =
     (omega arith, omega arith)
 
 -- what follows the records `done` is cut into records in one way only
-same_front : (done xs ys : List Record) (x y : List ℕ) → flat_map written xs ++ x ≡ flat_map written ys ++ y → All Writable xs → All Writable ys → Within (done ++ xs) → Within (done ++ ys) → Longest (done ++ xs) x → Longest (done ++ ys) y → (xs ≡ ys) × (x ≡ y)
+same_front : (done xs ys : List Record) (x y : List ℕ) → flat_map written xs ++ x ≡ flat_map written ys ++ y → AllByRecursion Writable xs → AllByRecursion Writable ys → Within (done ++ xs) → Within (done ++ ys) → Longest (done ++ xs) x → Longest (done ++ ys) y → (xs ≡ ys) × (x ≡ y)
 same_front done [] [] x y e fx fy wx wy lx ly = (refl, e)
 same_front done [] (b ∷ ys) x y e fx fy wx wy lx ly =
     absurd (lx b (flat_map written ys ++ y) fy.0 (e ∙ append_assoc (written b) (flat_map written ys) y)
@@ -70,11 +70,11 @@ pages_of_ticks : (p : OwnedPages) (ts : List ℕ) → pages_from p (map (λ t. T
 pages_of_ticks p [] = refl
 pages_of_ticks p (t ∷ ts) = pages_of_ticks p ts
 
-words_writable : (ws : List ℕ) → All (λ w. w < 2 ^ 24) ws → All Writable (map (λ w. Word w) ws)
+words_writable : (ws : List ℕ) → AllByRecursion (λ w. w < 2 ^ 24) ws → AllByRecursion Writable (map (λ w. Word w) ws)
 words_writable [] h = tt
 words_writable (w ∷ ws) h = (h.0, words_writable ws h.1)
 
-ticks_writable : (ts : List ℕ) → All (λ t. t < 2 ^ 16) ts → All Writable (map (λ t. Tick t) ts)
+ticks_writable : (ts : List ℕ) → AllByRecursion (λ t. t < 2 ^ 16) ts → AllByRecursion Writable (map (λ t. Tick t) ts)
 ticks_writable [] h = tt
 ticks_writable (t ∷ ts) h = (h.0, ticks_writable ts h.1)
 

@@ -6,7 +6,7 @@
 --   Longest                     no further record stands there that a job may have
 --   Means                       the bytes tell this job, or are refused so
 use Rattle.std.specs.Prelude.{◌≡◌, ℕ, ◌+◌, ◌-◌, ◌^◌, ◌<◌, ◌≤◌, cond, List, [], ◌∷◌, ◌++◌, map, length, Ok, Err, vec_items, Result, ◌==◌, nat_lt}
-use Rattle.std.specs.List.{flat_map, AllByRecursion as All}
+use Rattle.std.specs.List.{flat_map, AllByRecursion}
 use Rattle.refusals.specs.declared.Refusal.{Refusal}
 use Rattle.refusals.specs.declared.Refusal.TheVariants.{UnknownKind, RecordCutOff, TooManyRecords, JobTooLong}
 use Rattle.jobs.specs.declared.job.Job.{Job}
@@ -45,7 +45,7 @@ Within records = (length (words_of records) ≤ 4096) × (length (ticks_of recor
 
 pub record Front (bytes : List ℕ) (records : List Record) (rest : List ℕ) : Type 0 where
   pub whole : bytes ≡ flat_map written records ++ rest
-  pub writable : All Writable records
+  pub writable : AllByRecursion Writable records
   pub within : Within records
 
 abbrev pub Longest : List Record → List ℕ → Type 0
@@ -117,8 +117,8 @@ written_job pages words ticks = flat_map written (Pages pages.first pages.last �
 -- a job whose numbers and lists fit the format
 pub record Storable (pages : OwnedPages) (words ticks : List ℕ) : Type 0 where
   pub pages_fit : (pages.first < 2 ^ 16) × (pages.last < 2 ^ 16)
-  pub words_fit : All (λ w. w < 2 ^ 24) words
-  pub ticks_fit : All (λ t. t < 2 ^ 16) ticks
+  pub words_fit : AllByRecursion (λ w. w < 2 ^ 24) words
+  pub ticks_fit : AllByRecursion (λ t. t < 2 ^ 16) ticks
   pub few_words : length words ≤ 4096
   pub few_ticks : length ticks ≤ 4096
 

@@ -1,7 +1,7 @@
 -- What steps, runs and lists of calls leave is reached, so it is safe. Assumes nothing.
 use Rattle.std.proofs.Common.{◌≡◌, ℕ, ◌-◌, ◌<◌, ◌≤◌, Bool, true, false, cond, ltb, List, [], ◌∷◌, length, Some, None, Option, sym, refl, subst, arith}
 use Rattle.std.proofs.lemmas.Bool.{ltb-true}
-use Rattle.std.specs.List.{AllByRecursion as All}
+use Rattle.std.specs.List.{AllByRecursion}
 use Rattle.refusals.specs.declared.Refusal.{Refusal}
 use Rattle.memories.specs.Meaning.{Meaning, poked}
 use Rattle.machine.specs.Calls.{Call, stepping, running, resetting, counting, peeking, poking, State, Poke, Fits, Reached, begun, stepped, was_reset, was_poked, does, performs, state_after, started}
@@ -73,7 +73,7 @@ module _ (image : List ℕ) (memory₀ : Meaning) (pokes : List Poke) where
   does_reached (peeking page offset) state fits r = r
   does_reached (poking page offset byte) state fits r = poked_reached page offset byte state fits (ltb page state.memory.pages) refl r
 
-performs_reached : (image : List ℕ) (memory₀ : Meaning) (calls : List Call) (pokes : List Poke) (state : State) → All Fits calls → ReachedState image memory₀ pokes state → ReachedState image memory₀ (pokes_of image calls state pokes) (performs image calls state)
+performs_reached : (image : List ℕ) (memory₀ : Meaning) (calls : List Call) (pokes : List Poke) (state : State) → AllByRecursion Fits calls → ReachedState image memory₀ pokes state → ReachedState image memory₀ (pokes_of image calls state pokes) (performs image calls state)
 performs_reached image memory₀ [] pokes state fits r = r
 performs_reached image memory₀ (call ∷ calls) pokes state fits r =
     performs_reached image memory₀ calls (pokes_by call state pokes) (does image call state) fits.1 (does_reached image memory₀ pokes call state fits.0 r)

@@ -5,7 +5,7 @@
 --                     is what any list of calls leaves
 --   SafetyWithin      every image with a ledger is a safe one, its limit the depth of the ledger
 use Rattle.std.specs.Prelude.{◌≡◌, ℕ, ◌≤◌, Bool, false, List, [], length, Some}
-use Rattle.std.specs.List.{AllByRecursion as All}
+use Rattle.std.specs.List.{AllByRecursion}
 use Rattle.refusals.specs.declared.Refusal.{Refusal}
 use Rattle.refusals.specs.declared.Refusal.TheVariants.{ExportsFull}
 use Rattle.memories.specs.Meaning.{Meaning}
@@ -43,7 +43,7 @@ ReachedSafeWithin image owned limit memory₀ =
 
 abbrev pub PerformedSafeWithin : List ℕ → OwnedPages → ℕ → Meaning → Type 0
 PerformedSafeWithin image owned limit memory₀ =
-    (calls : List Call) → All Fits calls → SafeWithin image owned limit memory₀ (pokes_of image calls (start memory₀) []) (performs image calls (start memory₀)).core (performs image calls (start memory₀)).memory
+    (calls : List Call) → AllByRecursion Fits calls → SafeWithin image owned limit memory₀ (pokes_of image calls (start memory₀) []) (performs image calls (start memory₀)).core (performs image calls (start memory₀)).memory
 
 pub record SafeImageWithin (image : List ℕ) (owned : OwnedPages) (limit : ℕ) : Type 0 where
   -- every state that steps, resets and pokes can reach

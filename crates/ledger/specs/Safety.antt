@@ -7,7 +7,7 @@
 --
 -- Where the memory lacks an owned page, nothing is promised. A step refused for its tick is no fault.
 use Rattle.std.specs.Prelude.{◌≡◌, ℕ, ◌<◌, ◌≤◌, Bool, false, ◌⊎◌, List, [], length, Some}
-use Rattle.std.specs.List.{AllByRecursion as All}
+use Rattle.std.specs.List.{AllByRecursion}
 use Rattle.refusals.specs.declared.Refusal.{Refusal}
 use Rattle.refusals.specs.declared.Refusal.TheVariants.{ExportsFull}
 use Rattle.memories.specs.Meaning.{Meaning, Sound}
@@ -55,11 +55,11 @@ ReachedSafe image owned rows memory₀ =
 -- what calls whose numbers fit leave of a newly reset board, with the pokes that they make, can be reached
 abbrev pub Courses : List ℕ → Meaning → Type 0
 Courses image memory₀ =
-    (calls : List Call) → All Fits calls → Reached image memory₀ (pokes_of image calls (start memory₀) []) (performs image calls (start memory₀)).core (performs image calls (start memory₀)).memory
+    (calls : List Call) → AllByRecursion Fits calls → Reached image memory₀ (pokes_of image calls (start memory₀) []) (performs image calls (start memory₀)).core (performs image calls (start memory₀)).memory
 
 abbrev pub PerformedSafe : List ℕ → OwnedPages → List Row → Meaning → Type 0
 PerformedSafe image owned rows memory₀ =
-    (calls : List Call) → All Fits calls → Safe image owned rows memory₀ (pokes_of image calls (start memory₀) []) (performs image calls (start memory₀)).core (performs image calls (start memory₀)).memory
+    (calls : List Call) → AllByRecursion Fits calls → Safe image owned rows memory₀ (pokes_of image calls (start memory₀) []) (performs image calls (start memory₀)).core (performs image calls (start memory₀)).memory
 
 pub record SafeImage (image : List ℕ) (owned : OwnedPages) (rows : List Row) : Type 0 where
   -- every state that steps, resets and pokes can reach
