@@ -17,7 +17,7 @@ use Rattle.ledger.specs.Rows.{any_frame, main_at, handler_at, Marked}
 use Rattle.ledger.specs.Verdicts.{Clear, CauseAt, outside, undefined, mixed, misplaced}
 use Rattle.ledger.specs.Verdicts.{written as writing}
 use Rattle.inspection.specs.Looking.{outside_image, escapes, leaves, either_marked, writes_page, cause_of, word_cause, instruction_cause}
-use Rattle.inspection.specs.Looking.{mixed as isMixed, misplaced as isMisplaced}
+use Rattle.inspection.specs.Looking.{mixed as is_mixed, misplaced as is_misplaced}
 use Rattle.inspection.proofs.Choosing.{cond_some, cond_none}
 
 none_some : {X : Type 0} (x : X) → None ≡ Some x → ⊥
@@ -110,13 +110,13 @@ module _ (image : List ℕ) (rows : List Row) (a : ℕ) where
     inside_here : leaves (length image) (successors a i) ≡ false → LeadsOutside image rows a → ⊥
     inside_here e c = both_ways _ e (out_leaves (length image) (successors a i) c.edge c.to (subst (λ j. Leads (successors a j) c.edge c.to) (this c.instruction c.found) c.leads) c.outside)
 
-    apart_here : (isMixed (main_at rows a) || isMixed (handler_at rows a)) ≡ false → MixedFrames rows a → ⊥
+    apart_here : (is_mixed (main_at rows a) || is_mixed (handler_at rows a)) ≡ false → MixedFrames rows a → ⊥
     apart_here e c = both_ways _ e (⊎_elim (λ k. or_left _ _ (and_from _ _ k.0 k.1)) (λ k. or_right _ _ (and_from _ _ k.0 k.1)) c)
 
-    returns_here : isMisplaced i (main_at rows a) (handler_at rows a) ≡ false → MisplacedReturn image rows a → ⊥
+    returns_here : is_misplaced i (main_at rows a) (handler_at rows a) ≡ false → MisplacedReturn image rows a → ⊥
     returns_here e c = ⊎_elim
-        (λ ret. both_ways _ (subst (λ j. isMisplaced j (main_at rows a) (handler_at rows a) ≡ false) (sym (this Return ret.0)) e) (⊎_elim (or_left _ _) (or_right _ _) ret.1))
-        (λ iret. both_ways _ (subst (λ j. isMisplaced j (main_at rows a) (handler_at rows a) ≡ false) (sym (this ReturnFromInterrupt iret.0)) e) (⊎_elim (or_left _ _) (or_right _ _) iret.1))
+        (λ ret. both_ways _ (subst (λ j. is_misplaced j (main_at rows a) (handler_at rows a) ≡ false) (sym (this Return ret.0)) e) (⊎_elim (or_left _ _) (or_right _ _) ret.1))
+        (λ iret. both_ways _ (subst (λ j. is_misplaced j (main_at rows a) (handler_at rows a) ≡ false) (sym (this ReturnFromInterrupt iret.0)) e) (⊎_elim (or_left _ _) (or_right _ _) iret.1))
         c
 
     keeps_here : (any_frame (handler_at rows a) && writes_page i) ≡ false → WritesPageRegister image rows a → ⊥
@@ -138,7 +138,7 @@ module _ (image : List ℕ) (rows : List Row) (a : ℕ) where
           keeps = keeps_here four.0;
         }
 
-    misplaced_found : (j : Instruction) → instruction_at image a ≡ Some j → isMisplaced j (main_at rows a) (handler_at rows a) ≡ true → MisplacedReturn image rows a
+    misplaced_found : (j : Instruction) → instruction_at image a ≡ Some j → is_misplaced j (main_at rows a) (handler_at rows a) ≡ true → MisplacedReturn image rows a
     misplaced_found (Register operation rd rb) f e = absurd (false≢true e)
     misplaced_found (Immediate operation rd constant) f e = absurd (false≢true e)
     misplaced_found (Rotate rotation rd rb) f e = absurd (false≢true e)
@@ -156,7 +156,7 @@ module _ (image : List ℕ) (rows : List Row) (a : ℕ) where
       outside_found : leaves (length image) (successors a i) ≡ true → LeadsOutside image rows a
       outside_found e = let o = leaves_out (length image) (successors a i) e in record { marked = mark; instruction = i; found = found; edge = o.0; to = o.1; leads = o.2; outside = o.3 }
 
-      mixed_found : (isMixed (main_at rows a) || isMixed (handler_at rows a)) ≡ true → MixedFrames rows a
+      mixed_found : (is_mixed (main_at rows a) || is_mixed (handler_at rows a)) ≡ true → MixedFrames rows a
       mixed_found e = ⊎_elim (λ k. inl (and_parts _ _ k)) (λ k. inr (and_parts _ _ k)) (or_cases _ _ e)
 
       writes_found : (any_frame (handler_at rows a) && writes_page i) ≡ true → WritesPageRegister image rows a
@@ -164,7 +164,7 @@ module _ (image : List ℕ) (rows : List Row) (a : ℕ) where
           let parts = and_parts (any_frame (handler_at rows a)) (writes_page i) e in
           record { marked = parts.0; instruction = i; found = found; writes = ⊎_elim (λ k. inl (is_some 14 _ k)) (λ k. inr (is_some 15 _ k)) (or_cases _ _ parts.1) }
 
-      last_cause : {refusal : Refusal} → leaves (length image) (successors a i) ≡ false → (isMixed (main_at rows a) || isMixed (handler_at rows a)) ≡ false → isMisplaced i (main_at rows a) (handler_at rows a) ≡ false → cond (any_frame (handler_at rows a) && writes_page i) (Some (PageRegisterWritten a)) None ≡ Some refusal → CauseAt image rows a refusal
+      last_cause : {refusal : Refusal} → leaves (length image) (successors a i) ≡ false → (is_mixed (main_at rows a) || is_mixed (handler_at rows a)) ≡ false → is_misplaced i (main_at rows a) (handler_at rows a) ≡ false → cond (any_frame (handler_at rows a) && writes_page i) (Some (PageRegisterWritten a)) None ≡ Some refusal → CauseAt image rows a refusal
       last_cause {refusal} p q r e = ⊎_elim
           (λ k. subst (CauseAt image rows a) k.1 (writing (inside_here p) defined_here (apart_here q) (returns_here r) (writes_found k.0)))
           (λ k. absurd (none_some refusal k.1))

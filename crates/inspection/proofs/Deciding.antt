@@ -162,12 +162,12 @@ module _ {image : List ℕ} (owned : OwnedPages) {main handler : List FrameMarks
   pub caused_foreign : {refusal : Refusal} (all : PageSpans) → all ≡ summary spans image here → NoneBefore (length image) (cause_in image main handler) → Settled image (marked_in main handler) need → deepest image need ≤ 16 → FirstAt (length image) (foreign_in image owned main handler here all) refusal → Caused image owned refusal
   caused_foreign all is clear settled few first =
       let at = first.address in
-      let Here-found = foreign_found_lem (foreign_path surveys all is at first.inside ∙ first.here) in
+      let here_found = foreign_found_lem (foreign_path surveys all is at first.inside ∙ first.here) in
       let fine = suffices_allowed surveys (allowed image main handler need settled found.mains found.handlers few) in
       record {
         rows = survey;
         surveyed = is_surveyed surveys;
-        because = subst (Because image owned survey) Here-found.1 (foreign at first.inside (clear_all surveys clear) (λ over. over need fine few) (λ b h. not_foreign surveys all is b (below b h) (first.before b h)) Here-found.0);
+        because = subst (Because image owned survey) here_found.1 (foreign at first.inside (clear_all surveys clear) (λ over. over need fine few) (λ b h. not_foreign surveys all is b (below b h) (first.before b h)) here_found.0);
       }
     where
       below : (b : ℕ) → b < first.address → b < length image
@@ -180,10 +180,10 @@ pub found_of :
     → Facts image able main handler here all
     → able ≡ interruptible image
     → Found image main handler here need
-found_of {image} {main} {handler} able longs facts is-able = record {
+found_of {image} {main} {handler} able longs facts is_able = record {
   longs = longs;
   mains = facts.mains;
-  handlers = subst (λ b. Smallest marks image 0 (handler_marks b) handler) is-able facts.handlers;
+  handlers = subst (λ b. Smallest marks image 0 (handler_marks b) handler) is_able facts.handlers;
   spanned = facts.spanned;
 }
 

@@ -65,8 +65,8 @@ record_of n main handler here need = record {
 module _ {image : List ℕ} {main handler : List FrameMarks} {here : List PageSpans} {need : List ℕ} {rows : List Row}
     (records : Records (length image) main handler here need rows)
     (longs : (length main ≡ length image) × (length handler ≡ length image) × (length need ≡ length image))
-    (marked-main : Smallest marks image 1 outermost main)
-    (marked-handler : Smallest marks image 0 (handler_start image) handler)
+    (marked_main : Smallest marks image 1 outermost main)
+    (marked_handler : Smallest marks image 0 (handler_start image) handler)
     (spanned : Smallest spans image 1 zero_spans here)
   where
     beyond : (a : ℕ) → length image ≤ a → get_or rows a blank_row ≡ blank_row
@@ -92,7 +92,7 @@ module _ {image : List ℕ} {main handler : List FrameMarks} {here : List PageSp
 
     -- spans are known where the main program comes
     spans_known : (a : ℕ) → a < length image → known spans (fact_at spans here a) ≡ any_frame (fact_at marks main a)
-    spans_known a h = sym (spans_where_marked image 1 outermost zero_spans main here marked-main spanned refl a h) ∙ known_marked (fact_at marks main a)
+    spans_known a h = sym (spans_where_marked image 1 outermost zero_spans main here marked_main spanned refl a h) ∙ known_marked (fact_at marks main a)
 
     pub spans_recorded : (a : ℕ) → a < length image → spans_at rows a ≡ fact_at spans here a
     spans_recorded a h = spans_at_lem rows a ∙ ap spans_of (records.each a h) ∙ row_spans (fact_at marks main a) (fact_at marks handler a) (fact_at spans here a) (get_or need a 0) (spans_known a h)
@@ -100,8 +100,8 @@ module _ {image : List ℕ} {main handler : List FrameMarks} {here : List PageSp
     pub surveyed : Surveyed image rows
     surveyed = record {
       long = records.long;
-      main = smallest_agree marks_laws image 1 outermost main (mains rows) (λ a h. sym (main_recorded a)) marked-main;
-      handler = smallest_agree marks_laws image 0 (handler_start image) handler (handlers rows) (λ a h. sym (handler_recorded a)) marked-handler;
+      main = smallest_agree marks_laws image 1 outermost main (mains rows) (λ a h. sym (main_recorded a)) marked_main;
+      handler = smallest_agree marks_laws image 0 (handler_start image) handler (handlers rows) (λ a h. sym (handler_recorded a)) marked_handler;
       spans = smallest_agree spans_laws image 1 zero_spans here (page_spans rows) (λ a h. sym (spans_recorded a h)) spanned;
     }
 

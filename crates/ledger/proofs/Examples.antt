@@ -49,14 +49,14 @@ same_some : {A : Type 0} (x y : A) → Some x ≡ Some y → x ≡ y
 same_some x y e = cc
 
 -- the ways that lead on: from the second word and from the third, each to the third
-module _ (P : ℕ → Edge → Instruction → ℤ → Type 0) (from_Second : P 1 past (Flag Seti) (pos 2)) (from-third : P 2 past (Branch (pos 0)) (pos 2)) where
+module _ (P : ℕ → Edge → Instruction → ℤ → Type 0) (from_second : P 1 past (Flag Seti) (pos 2)) (from_third : P 2 past (Branch (pos 0)) (pos 2)) where
   from_flag : (edge : Edge) (to : ℤ) → Leads (successors 1 (Flag Seti)) edge to → P 1 edge (Flag Seti) to
-  from_flag past to l = ⊎_elim (λ e. subst (P 1 past (Flag Seti)) (same_some _ _ e) from_Second) (λ e. absurd (none_some to e)) l
+  from_flag past to l = ⊎_elim (λ e. subst (P 1 past (Flag Seti)) (same_some _ _ e) from_second) (λ e. absurd (none_some to e)) l
   from_flag enter to l = absurd (none_some to l)
   from_flag resume to l = absurd (none_some to l)
 
   from_branch : (edge : Edge) (to : ℤ) → Leads (successors 2 (Branch (pos 0))) edge to → P 2 edge (Branch (pos 0)) to
-  from_branch past to l = ⊎_elim (λ e. absurd (none_some to e)) (λ e. subst (P 2 past (Branch (pos 0))) (same_some _ _ e) from-third) l
+  from_branch past to l = ⊎_elim (λ e. absurd (none_some to e)) (λ e. subst (P 2 past (Branch (pos 0))) (same_some _ _ e) from_third) l
   from_branch enter to l = absurd (none_some to l)
   from_branch resume to l = absurd (none_some to l)
 
@@ -77,10 +77,10 @@ module _ (P : ℕ → Edge → Instruction → ℤ → Type 0) (from_Second : P 
   every_lead (suc (suc (suc a))) small edge i to found l = absurd (omega arith)
 
 every_step_lem : (P : ℕ → Edge → Instruction → ℕ → Type 0) → P 1 past (Flag Seti) 2 → P 2 past (Branch (pos 0)) 2 → (a : ℕ) (edge : Edge) (i : Instruction) (b : ℕ) → Step waiting edge a i b → P a edge i b
-every_step_lem P from_Second from-third a edge i b step =
+every_step_lem P from_second from_third a edge i b step =
     every_lead (λ a edge i to. (b : ℕ) → to ≡ pos b → P a edge i b)
-    (λ b e. subst (P 1 past (Flag Seti)) (same_pos 2 b e) from_Second)
-    (λ b e. subst (P 2 past (Branch (pos 0))) (same_pos 2 b e) from-third)
+    (λ b e. subst (P 1 past (Flag Seti)) (same_pos 2 b e) from_second)
+    (λ b e. subst (P 2 past (Branch (pos 0))) (same_pos 2 b e) from_third)
     a step.from edge i (pos b) (written_computed i _ step.writes) step.leads b refl
   where
     same_pos : (m n : ℕ) → pos m ≡ pos n → m ≡ n
