@@ -1,8 +1,8 @@
 -- Tables of an image that is written out, by computation: a test whether one is closed, and rounds that find the smallest. Assumes nothing.
 --
---   every       a test at each number below a bound
+--   every        a test at each number below a bound
 --   every_step   a test at each step that an image has
---   closes      the test whether a table is closed
+--   closes       the test whether a table is closed
 --   two_rounds   what two rounds of carrying on, from low addresses to high, make of what is given
 use Rattle.std.proofs.Common.{◌≡◌, ℕ, zero, suc, ◌<◌, ◌≤◌, Bool, true, ◌&&◌, List, [], ◌∷◌, map, length, get_or, ℤ, pos, Some, None, Option, refl, subst, inl, inr, arith}
 use Rattle.std.proofs.lemmas.Bool.{and_parts, cases_lt}

@@ -112,9 +112,9 @@ module _ {F : Type 0} {k : Kind F} (laws : Laws k) where
         → r ≡ k.resume s x
         → Raises k (Receives k to p e r) table flags after flags' changed
         → Spreads k image s at table flags after flags' changed
-    spreads table after flags flags' changed to x p e r from long read is-to is-p is-e is-r raises =
+    spreads table after flags flags' changed to x p e r from long read is_to is_p is_e is_r raises =
         let held : x ≡ fact_at k table at = get_or_read table at x (omega arith) read k.bottom in
-        let all = rw (is-to, is-p, is-e, is-r, held) at raises in
+        let all = rw (is_to, is_p, is_e, is_r, held) at raises in
         record {
           grows = record {
             long = all.grows.long;

@@ -1,6 +1,6 @@
 -- Tables of facts, one for each word of an image: which are closed, and which is the smallest of these. Assumes nothing.
 --
---   fact_at     the fact that a table has at an address
+--   fact_at    the fact that a table has at an address
 --   summary    the join of the facts at the named words
 --   carry      what arrives along an edge
 --   Carried    what is carried from an address is covered where it arrives

@@ -1,7 +1,7 @@
 -- The verdict on an image that is written out, by computation. Assumes nothing.
 --
 --   needs_found   what two rounds, from high addresses to low, make of no needs
---   Computed     the tests by which the facts are the smallest, the needs the least, and no cause from 5 to 9 holds
+--   Computed      the tests by which the facts are the smallest, the needs the least, and no cause from 5 to 9 holds
 use Rattle.std.proofs.Common.{◌≡◌, ℕ, zero, suc, ◌+◌, ◌<◌, ◌≤◌, min, max, Bool, true, false, cond, not, ◌||◌, eqb, leb, List, map, length, get_or, Some, None, Option, refl, inl, inr, ⊎_elim, arith}
 use Rattle.std.proofs.lemmas.List.{get_or_past}
 use Rattle.std.proofs.lemmas.Bool.{both_ways, cases_lt, eqb-true, le-leb, leb-true, not_from_true, or_cases, false≢true}

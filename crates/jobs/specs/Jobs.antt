@@ -1,10 +1,10 @@
 -- What a list of bytes means as a job: the longest front of whole records, and what is left behind it. Assumes nothing.
 --
 --   words_of, ticks_of, pages_of   what the records of a job say
---   Within                      no more words and ticks than a job may have
---   Front                       the bytes are these records and then the rest
---   Longest                     no further record stands there that a job may have
---   Means                       the bytes tell this job, or are refused so
+--   Within                         no more words and ticks than a job may have
+--   Front                          the bytes are these records and then the rest
+--   Longest                        no further record stands there that a job may have
+--   Means                          the bytes tell this job, or are refused so
 use Rattle.std.specs.Prelude.{◌≡◌, ℕ, ◌+◌, ◌-◌, ◌^◌, ◌<◌, ◌≤◌, cond, List, [], ◌∷◌, ◌++◌, map, length, Ok, Err, vec_items, Result, ◌==◌, nat_lt}
 use Rattle.std.specs.List.{flat_map, AllByRecursion}
 use Rattle.refusals.specs.declared.Refusal.{Refusal}

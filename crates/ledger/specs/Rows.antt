@@ -1,9 +1,9 @@
 -- What a list of rows says at each address: the marks of both contexts, the page spans and the needs. Assumes nothing.
 --
---   blank_row        zeros
+--   blank_row       zeros
 --   mains           the marks of the main program
 --   handlers        the marks of the interrupt handler
---   page_spans       the spans of the page registers, nothing where the main program never comes
+--   page_spans      the spans of the page registers, nothing where the main program never comes
 --   MainMarked      the main program can come to the address
 --   HandlerMarked   the handler can come to it
 --   Marked          either can

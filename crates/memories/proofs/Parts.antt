@@ -28,10 +28,10 @@ second_byte a b sound page offset inside =
 
 -- the whole, and how it was cut, fix both parts
 module _ (a b a' b' : Meaning)
-    (soundA : Sound a)
-    (soundB : Sound b)
-    (soundA' : Sound a')
-    (soundB' : Sound b')
+    (sound_a : Sound a)
+    (sound_b : Sound b)
+    (sound_a' : Sound a')
+    (sound_b' : Sound b')
     (whole : joined a b ≡ joined a' b')
     (same : cut a b ≡ cut a' b') where
   boundary : a.pages ≡ a'.pages
@@ -39,13 +39,13 @@ module _ (a b a' b' : Meaning)
 
   first_fixed : a ≡ a'
   first_fixed = same_meaning a a' boundary (λ page offset. ⊎_elim
-      (λ inside. sym (first_byte a b soundA page offset inside) ∙ ap (λ m. m.byte page offset) whole ∙ first_byte a' b' soundA' page offset (omega (arith, boundary)))
-      (λ past. soundA.outside page offset (inl past) ∙ sym (soundA'.outside page offset (inl (omega (arith, boundary)))))
+      (λ inside. sym (first_byte a b sound_a page offset inside) ∙ ap (λ m. m.byte page offset) whole ∙ first_byte a' b' sound_a' page offset (omega (arith, boundary)))
+      (λ past. sound_a.outside page offset (inl past) ∙ sym (sound_a'.outside page offset (inl (omega (arith, boundary)))))
       (cases_lt page a.pages))
 
   second_fixed : b ≡ b'
   second_fixed = same_meaning b b' (ap (λ c. c.second_pages) same) (λ page offset. ⊎_elim
-      (λ inside. sym (second_byte a b soundB page offset inside) ∙ ap (λ m. m.byte (a.pages + page) offset) whole ∙ ap (λ n. (joined a' b').byte (n + page) offset) boundary ∙ second_byte a' b' soundB' page offset (omega (arith, boundary)))
+      (λ inside. sym (second_byte a b sound_b page offset inside) ∙ ap (λ m. m.byte (a.pages + page) offset) whole ∙ ap (λ n. (joined a' b').byte (n + page) offset) boundary ∙ second_byte a' b' sound_b' page offset (omega (arith, boundary)))
       (λ past. let h = ap (λ c. c.beyond page offset) same in let e = boundary in grind (arith, nat_tests))
       (cases_lt (a.pages + page) (2 ^ 16)))
 

@@ -1,10 +1,10 @@
 -- What each kind of memory means. Assumes nothing.
 --
---   blank     one page of zeros
+--   blank      one page of zeros
 --   on_chip    a page of its own cells
 --   of_bytes   the whole pages of a list of bytes
---   board     the whole pages of the bytes that are lent
---   joined    one memory's pages, and another's behind them
+--   board      the whole pages of the bytes that are lent
+--   joined     one memory's pages, and another's behind them
 use Rattle.std.specs.Prelude.{ℕ, ◌+◌, ◌-◌, ◌*◌, ◌/◌, cond, List, length, nat_lt, slice_index}
 use Rattle.memories.specs.declared.board.BoardMemory.{BoardMemory}
 use Rattle.memories.specs.declared.on_chip.OnChip.{OnChip}

@@ -22,9 +22,9 @@ abbrev pub Left : List ℕ → List ℕ → List Row → ℕ → List ℕ → Ty
 Left before words rows i text = before ++ lines_text 0 words rows ≡ text ++ lines_text i (drop i words) (drop i rows)
 
 pub left_more : (before words : List ℕ) (rows : List Row) (i : ℕ) (row : Row) (found : Option Instruction) (text text' : List ℕ) → i < length words → i < length rows → found ≡ instruction_of (get_or words i 0) → row ≡ get_or rows i row → Left before words rows i text → text' ≡ text ++ (line_text i (get_or words i 0) found row ++ (10 ∷ [])) → Left before words rows (i + 1) text'
-left_more before words rows i row found text text' in_words_lem in_rows f r old e =
+left_more before words rows i row found text text' in_words in_rows f r old e =
     old
-    ∙ ap (λ ws. text ++ lines_text i ws (drop i rows)) (drop_more words i 0 in_words_lem)
+    ∙ ap (λ ws. text ++ lines_text i ws (drop i rows)) (drop_more words i 0 in_words)
     ∙ ap (λ rs. text ++ lines_text i (get_or words i 0 ∷ drop (i + 1) words) rs) (drop_more rows i row in_rows)
     ∙ ap (λ o. text ++ (line_text i (get_or words i 0) o (get_or rows i row) ++ rest)) (sym f)
     ∙ ap (λ o. text ++ (line_text i (get_or words i 0) found o ++ rest)) (sym r)

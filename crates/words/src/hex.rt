@@ -1,13 +1,12 @@
 // Hexadecimal text in a fixed number of digits, built from characters.
-ghost use Rattle.std.specs.Prelude.{◌≡◌, ◌%◌, [], ◌∷◌, Some};
-ghost use Rattle.std.proofs.Math.Utf8.{encode};
+ghost use Rattle.std.specs.Prelude.{◌≡◌, ◌%◌, [], ◌∷◌, Some, encode_utf8};
 ghost use Rattle.words.specs.Hex.{hex_digit, hex_two, hex_four};
 
 use std::fmt;
 
 // The last digit of `n`: a character whose text is one byte.
 pub fn hex_digit(n: usize) -> char
-    ensures { encode result ≡ hex_digit (n % 16) ∷ [] }
+    ensures { encode_utf8 result ≡ hex_digit (n % 16) ∷ [] }
 {
     let digit = (n % 16) as u8;
     if digit < 10 {
