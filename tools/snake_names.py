@@ -4,9 +4,10 @@
 usage: python3 tools/snake_names.py      at the top of the repository, once, right after the kit's own script
 
 It goes by text: it collects what the .antt files of crates/ declare, takes each name that begins with a small letter and
-has a dash or a capital, and writes it in snake case wherever it stands in crates/. Names of types, modules and files, of
-functions in src/, strings, and the names that Rattle makes for goals stay. Where two names would fall together the
-lemma gets the ending `_lem`.
+has a dash or a capital, and writes it in snake case wherever it stands in the .antt and .rt files of crates/. Names of
+types, modules and files, of functions in src/, strings, words with a dash in comments, must-fail edits, and the names
+that Rattle makes for goals stay. Two names that would fall together are told apart by the tables LEMMAS and CASES
+below; the script does not look for others. A second run stops at once, since no name is left.
 """
 
 import glob
@@ -94,6 +95,7 @@ def respelled(path, names):
                 return name
             if of_goals(path) and MADE.search(line[: found.start()]):
                 return name
+            # the name of an answer, at the head of its line, `pub` before it or not
             if of_goals(path) and re.match(rf"(pub )?{re.escape(name)}( :|\b.*=)", line) and found.start() <= 4:
                 return name
             if name in lemmas:
@@ -121,6 +123,8 @@ def main():
         if path.endswith(".antt"):
             own |= declared(path)
     old = {n for n in own if re.match(r"[a-z]", n) and ("-" in n or re.search(r"[A-Z]", n))}
+    if not old:
+        raise SystemExit("nothing to do: no declared name has a dash or a capital")
     names = {n: CASES.get(n, snake(n)) for n in old}
     changed = sum(respelled(path, names) for path in texts())
     print(f"{len(names)} names, {changed} files")

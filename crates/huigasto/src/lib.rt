@@ -1,4 +1,4 @@
-// The public library: every call, type and named impl that a user may rely on. What is not here is not public.
+// The public library: every public call, type and trait, by name. What is not here is not public.
 #![tactic(auto)]
 
 // How a call says no.

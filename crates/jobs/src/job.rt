@@ -55,6 +55,7 @@ fn push_within<T: Drop>(list: &mut Vec<T>, item: T, place: usize) -> Result<(), 
 
 impl Job {
     // The job that the bytes tell.
+    #[tactic(auto, using(crate::proofs::Laws::reading_laws))]
     pub fn read(heap: Global, bytes: &[u8]) -> Result<Job, JobError>
         ensures answer { Answers bytes.now result }
         ensures laws { ReadingLaws }
