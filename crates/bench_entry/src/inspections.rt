@@ -1,31 +1,19 @@
 // Inspections that the benchmark times: images of 4,096 words that pass.
 ghost use Rattle.std.specs.Prelude.{◌<◌};
 
-use crate::fill_ordinary;
+use crate::{fill_backward, fill_by, fill_ordinary};
 use inspection::inspecting::inspect;
 use ledger::owned::OwnedPages;
 use ledger::row::Row;
-
-const WORDS: usize = 4096;
+use words::MOST_WORDS;
 
 // An image of ordinary shape: interrupts enabled at address 2, and a store in every sixteen words.
-fn fill_busy(image: &mut [u32; WORDS]) {
+fn fill_busy(image: &mut [u32; MOST_WORDS]) {
     fill_ordinary(image);
     image[2] = 0x2C005;
-    for part in 0..256 {
-        image[16 * part + 12] = 0x2E12C;
+    for word in image.iter_mut().skip(12).step_by(16) {
+        *word = 0x2E12C;
     }
-}
-
-// To the end of the image, and from there each word goes back by one.
-fn fill_backward(image: &mut [u32; WORDS]) {
-    for address in 0..WORDS {
-        image[address] = 0x3BFFF;
-    }
-    image[0] = 0x3A000;
-    image[1] = 0x3B7FF;
-    image[2048] = 0x307FF;
-    image[2049] = 0x3BFFE;
 }
 
 // Seventeen blocks of 240 words behind address 1, each of which calls the block before it near its end; the last is the
@@ -46,12 +34,6 @@ fn deep_word(address: usize) -> u32
     }
 }
 
-fn fill_deep(image: &mut [u32; WORDS]) {
-    for address in 0..WORDS {
-        image[address] = deep_word(address);
-    }
-}
-
 // Each word goes to the other side of address 1,024, ever nearer, as far as a call in the middle.
 fn zigzag_word(address: usize) -> u32 {
     match address {
@@ -64,15 +46,9 @@ fn zigzag_word(address: usize) -> u32 {
     }
 }
 
-fn fill_zigzag(image: &mut [u32; WORDS]) {
-    for address in 0..WORDS {
-        image[address] = zigzag_word(address);
-    }
-}
-
-// The depth, or 1,000 and the refusal's number.
-fn inspected(image: &[u32; WORDS]) -> u64 {
-    let mut rows = [Row::blank(); WORDS];
+// The depth, or 1,000 and the refusal's number: C takes a number.
+fn inspected(image: &[u32; MOST_WORDS]) -> u64 {
+    let mut rows = [Row::blank(); MOST_WORDS];
     let owned = OwnedPages { first: 0, last: 3 };
     match inspect(image, owned, &mut rows) {
         Ok(passed) => passed.depth() as u64,
@@ -80,15 +56,15 @@ fn inspected(image: &[u32; WORDS]) -> u64 {
     }
 }
 
-// The verdict on one of the four images, by its place above.
+// The verdict on one of the four images, by its place above: C hands over a number.
 #[unsafe(no_mangle)]
 pub extern "C" fn bench_inspection(shape: u32) -> u64 {
-    let mut image = [0x08110; WORDS];
+    let mut image = [0x08110; MOST_WORDS];
     match shape {
         0 => fill_busy(&mut image),
         1 => fill_backward(&mut image),
-        2 => fill_deep(&mut image),
-        _ => fill_zigzag(&mut image),
+        2 => fill_by(&mut image, deep_word),
+        _ => fill_by(&mut image, zigzag_word),
     }
     inspected(&image)
 }

@@ -1,14 +1,14 @@
 // What the benchmark under bench/ calls from C: fixed work over the library, and a checksum of its answers.
 #![tactic(auto)]
 
-ghost use Rattle.std.specs.Prelude.{◌<◌, ◌≤◌, length};
+ghost use Rattle.std.specs.Prelude.{ℕ, ◌<◌, ◌≤◌, length};
 
 use facts::engine::smallest;
-use facts::interval::Interval;
 use facts::marks::FrameMarks;
 use facts::spans::PageSpans;
 use machine::board::Board;
 use memories::on_chip::OnChip;
+use words::MOST_WORDS;
 
 pub mod inspections;
 
@@ -40,7 +40,7 @@ fn ordinary_word(address: usize, words: usize) -> u32
 {
     let first = words * 3 / 8;
     let behind = words * 5 / 8;
-    let inside = first <= address && address < behind;
+    let inside = (first..behind).contains(&address);
     match address % 16 {
         _ if address == 0 => 0x3A000,
         _ if address + 1 == words => 0x3B000,
@@ -53,46 +53,32 @@ fn ordinary_word(address: usize, words: usize) -> u32
     }
 }
 
+// Fills an image with the words that a rule gives for its addresses.
+fn fill_by<F: Fn(usize) -> u32>(image: &mut [u32], rule: F)
+    requires { (address : ℕ) → address < length image.old → F.pre rule address }
+{
+    for (address, word) in image.iter_mut().enumerate() {
+        *word = rule(address);
+    }
+}
+
 fn fill_ordinary(image: &mut [u32])
     requires { length image.old ≤ 4096 }
 {
     let words = image.len();
-    for address in 0..words {
-        image[address] = ordinary_word(address, words);
-    }
+    fill_by(image, |address| ordinary_word(address, words));
 }
 
 // The facts of both kinds over an image, and how many addresses they mark.
 fn marked(image: &[u32]) -> u64 {
-    if image.len() > 4096 {
+    if image.len() > MOST_WORDS {
         return 0;
     }
-    let mut marks = [FrameMarks {
-        outer: false,
-        routine: false,
-    }; 4096];
-    let mut spans = [PageSpans::Nothing; 4096];
-    let zero = PageSpans::Spans {
-        r14: Interval::point(0),
-        r15: Interval::point(0),
-    };
-    smallest(
-        image,
-        &mut marks,
-        1,
-        FrameMarks {
-            outer: true,
-            routine: false,
-        },
-    );
-    smallest(image, &mut spans, 1, zero);
-    let mut count: u64 = 0;
-    for fact in marks.iter() {
-        if fact.outer || fact.routine {
-            count = count.wrapping_add(1);
-        }
-    }
-    count
+    let mut marks = [FrameMarks::UNMARKED; MOST_WORDS];
+    let mut spans = [None; MOST_WORDS];
+    smallest(image, &mut marks, 1, FrameMarks::OUTERMOST);
+    smallest(image, &mut spans, 1, Some(PageSpans::zero()));
+    marks.iter().filter(|fact| fact.is_marked()).count() as u64
 }
 
 fn marked_ordinary(image: &mut [u32]) -> u64
@@ -105,18 +91,24 @@ fn marked_ordinary(image: &mut [u32]) -> u64
 // Both kinds of fact over an image of ordinary shape with so many words.
 #[unsafe(no_mangle)]
 pub extern "C" fn bench_ordinary(words: u32) -> u64 {
-    let mut image = [0x10000; 4096];
-    let words = (words as usize).min(4096);
+    let mut image = [0x10000; MOST_WORDS];
+    let words = (words as usize).min(MOST_WORDS);
     marked_ordinary(&mut image[0..words])
 }
 
-// The same over the worst image, of 4,096 words: to its end, and from there each word goes back by one.
-#[unsafe(no_mangle)]
-pub extern "C" fn bench_worst() -> u64 {
-    let mut image = [0x3BFFF; 4096];
+// To the end of the image, and from there each word goes back by one.
+fn fill_backward(image: &mut [u32; MOST_WORDS]) {
+    image.fill(0x3BFFF);
     image[0] = 0x3A000;
     image[1] = 0x3B7FF;
     image[2048] = 0x307FF;
     image[2049] = 0x3BFFE;
+}
+
+// The same over the worst image, of 4,096 words.
+#[unsafe(no_mangle)]
+pub extern "C" fn bench_worst() -> u64 {
+    let mut image = [0; MOST_WORDS];
+    fill_backward(&mut image);
     marked(&image)
 }

@@ -3,7 +3,7 @@ use machine::report::RunReport;
 use machine::step::Stepped;
 use refusals::Refusal;
 
-#[derive(Clone, Copy, Debug)]
+#[derive(Clone, Copy, Debug, PartialEq, Eq)]
 pub enum Answer {
     Step(Result<Stepped, Refusal>),
     Run(Result<RunReport, Refusal>),

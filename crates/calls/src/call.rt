@@ -1,6 +1,6 @@
 // A call of the machine or of its memory, as a value.
 
-#[derive(Clone, Copy, Debug)]
+#[derive(Clone, Copy, Debug, PartialEq, Eq)]
 pub enum Call<'a> {
     Step { tick: u16 },
     Run { ticks: &'a [u16] },

@@ -32,7 +32,8 @@ pub fn perform<M: Memory>(
     }
 }
 
-// Performs the calls in order, as many as the list of answers has places for, and says how many those are.
+// Performs the calls in order, as many as the lent list of answers has places for, and says how many those are: nothing
+// is allocated.
 pub fn perform_all<M: Memory>(
     board: &mut Board,
     image: &[u32],
@@ -46,8 +47,10 @@ pub fn perform_all<M: Memory>(
     ensures rest { M.frame memory.new ≡ M.frame memory.old }
 {
     let count = calls.len().min(answers.len());
-    for place in 0..count {
-        answers[place] = perform(board, image, calls[place], memory, exports);
+    let first = &calls[..count];
+    // By place, since a proof knows nothing of answers that are written through a zip with `iter_mut`.
+    for (place, call) in first.iter().enumerate() {
+        answers[place] = perform(board, image, *call, memory, exports);
     }
     count
 }

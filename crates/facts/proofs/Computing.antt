@@ -6,16 +6,15 @@
 --   two_rounds   what two rounds of carrying on, from low addresses to high, make of what is given
 use Rattle.std.proofs.Common.{◌≡◌, ℕ, zero, suc, ◌<◌, ◌≤◌, Bool, true, ◌&&◌, List, [], ◌∷◌, map, length, get_or, ℤ, pos, Some, None, Option, refl, subst, inl, inr, arith}
 use Rattle.std.proofs.lemmas.Bool.{and_parts, cases_lt}
-use Rattle.words.specs.Codec.{Decodes, answer_of}
 use Rattle.words.specs.Decoding.{instruction_of}
 use Rattle.words.specs.declared.instruction.Instruction.{Instruction}
-use Rattle.words.proofs.Codec.{one_instruction_each, written_computed}
+use Rattle.words.proofs.Codec.{written_computed}
 use Rattle.facts.specs.Kinds.{Kind, Covers}
 use Rattle.facts.specs.Laws.{Laws}
 use Rattle.facts.specs.Progress.{CoversAt}
 use Rattle.facts.specs.Successors.{Edge, past, enter, resume, Leads, Step, inside, successors}
 use Rattle.facts.specs.Tables.{fact_at, summary, carry, Flows, Closed, Smallest}
-use Rattle.facts.proofs.Spreading.{inside_some, already}
+use Rattle.facts.proofs.Spreading.{inside_some, writes_word, already}
 use Rattle.facts.proofs.Summaries.{summary_mono}
 
 abbrev pub every : ℕ → (ℕ → Bool) → Bool
@@ -146,8 +145,8 @@ module _ {F : Type 0} {k : Kind F} (laws : Laws k) where
           go : (found : Option Instruction) → instruction_of (get_or image a 0) ≡ found → Under k (spread k (length image) (summary k image table) a (fact_at k table a) found table) other
           go None e = under
           go (Some i) e =
-              let writes = (subst (λ o. Decodes (get_or image a 0) (answer_of o)) e (one_instruction_each.decoded (get_or image a 0))).1 in
-              let all = already laws one_instruction_each image a i writes (summary k image table) table other h (λ b l. under b) (flows, summary_mono laws image table other (λ b l. under b)) in
+              let writes = writes_word (get_or image a 0) i e in
+              let all = already laws image a i writes (summary k image table) table other h (λ b l. under b) (flows, summary_mono laws image table other (λ b l. under b)) in
               raise_at_under _ _ _ other all.next (raise_at_under _ _ _ other all.target (raise_at_under _ _ _ other all.routine (raise_at_under _ _ table other all.resumed under)))
 
       round_under : (n : ℕ) (table : List F) → n ≤ length image → Under k table other → Under k (round_to k image n table) other

@@ -131,19 +131,6 @@ module _ {F : Type 0} {k : Kind F} (laws : Laws k) where
       reached = λ c e. let same : b ≡ c = cc in rw (← same, set_here) (laws.joins.right x fact);
     }
 
-  pub unraised :
-      (table : List F) (b : ℕ) (fact x : F) (to : Option ℕ) (flags : List Bool)
-      → b < length table
-      → x ≡ get_or table b x
-      → to ≡ Some b
-      → k.covers x fact ≡ true
-      → Raises k (CoversAt k to fact) table flags table flags false
-  unraised table b fact x to flags inside read some taken = record {
-    grows = grows_none _ table;
-    noted = noted_none table flags;
-    reached = λ c e. let same : b ≡ c = cc in rw (← same, ← get_or_read table b x inside read k.bottom) taken;
-  }
-
   -- two raises, where what the first reached is not lost by growth
   pub raises_more :
       {P Q : List F → Type 0} {a b c : List F} {u v w : List Bool} {p q : Bool}

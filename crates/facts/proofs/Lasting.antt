@@ -1,15 +1,14 @@
 -- Frame marks and page spans are never carried to nothing, so that they mark the same addresses. Assumes nothing.
-use Rattle.std.proofs.Common.{◌≡◌, true, refl, arith, rules}
+use Rattle.std.proofs.Common.{◌≡◌, true, Option, Some, None, refl, arith}
 use Rattle.words.specs.declared.instruction.Instruction.{Instruction}
-use Rattle.facts.specs.Laws.{Laws}
 use Rattle.facts.specs.Marks.{marks}
+pub use Rattle.facts.specs.MarksLaws.{marks_laws}
 use Rattle.facts.specs.Spans.{spans}
 use Rattle.facts.specs.Successors.{Edge, past, enter, resume}
 use Rattle.facts.specs.Tables.{carry, known}
 use Rattle.facts.specs.Theorems.{Lasting, SameMarked}
 use Rattle.facts.specs.declared.marks.FrameMarks.{FrameMarks}
 use Rattle.facts.specs.declared.spans.PageSpans.{PageSpans}
-use Rattle.facts.specs.declared.spans.PageSpans.TheVariants.{Nothing, Spans}
 use Rattle.facts.specs.SpansLaws.{spans_laws}
 use Rattle.facts.proofs.Summaries.{summary_above}
 use Rattle.facts.proofs.Theorems.{known_above, same_marked}
@@ -26,21 +25,18 @@ pub lasting_marks : Lasting marks
 lasting_marks image table edge i a h = marks_last edge i _ _
 
 spans_last :
-    (edge : Edge) (i : Instruction) (s x : PageSpans)
+    (edge : Edge) (i : Instruction) (s x : Option PageSpans)
     → known spans s ≡ true
     → known spans x ≡ true
     → known spans (carry spans edge i s x) ≡ true
-spans_last past i s Nothing k e = e
-spans_last past i s (Spans a b) k e = refl
+spans_last past i s None k e = e
+spans_last past i s (Some y) k e = refl
 spans_last enter i s x k e = e
-spans_last resume i s Nothing k e = e
-spans_last resume i s (Spans a b) k e = k
+spans_last resume i s None k e = e
+spans_last resume i s (Some y) k e = k
 
 pub lasting_spans : Lasting spans
 lasting_spans image table edge i a h m = spans_last edge i _ _ (known_above spans_laws _ _ (summary_above spans_laws image table a h refl) m) m
-
-pub marks_laws : Laws marks
-marks_laws = search rules
 
 pub spans_where_marked : SameMarked marks spans
 spans_where_marked = same_marked marks_laws spans_laws lasting_marks lasting_spans

@@ -2,6 +2,7 @@ pub mod Carries
 pub mod Computing
 pub mod Growth
 pub mod Lasting
+pub mod Orders
 pub mod Rounding
 pub mod Settling
 pub mod Spreading

@@ -1,12 +1,13 @@
 -- What one turn of a round keeps: facts without a flag are carried on. Assumes nothing.
-use Rattle.std.proofs.Common.{◌≡◌, ℕ, ◌+◌, ◌<◌, Bool, false, ◌||◌, List, length, set, sym, refl, ap, ◌∙◌, subst, inl, inr, arith, length-set, get_or-set_other, get_or-set_same, below_more}
-use Rattle.std.proofs.lemmas.List.{set-get_or}
+use Rattle.std.proofs.Common.{◌≡◌, ℕ, ◌<◌, Bool, false, ◌||◌, List, [], ◌∷◌, ◌++◌, length, set, sym, ◌∙◌, subst, inl, inr, length-set, get_or-set_other, get_or-set_same}
 use Rattle.std.proofs.lemmas.Bool.{cases_eq, both_ways}
+use Rattle.std.proofs.lemmas.List.Elements.{Contains-push_cases}
+use Rattle.std.specs.List.{Contains}
 use Rattle.facts.specs.Kinds.{Kind, Covers}
 use Rattle.facts.specs.Laws.{Laws}
-use Rattle.facts.specs.Progress.{Level, Noted, Spreads, Settled, Visits, NoneBelow, flag_at}
+use Rattle.facts.specs.Progress.{Noted, Spreads, Settled, Visits, flag_at}
 use Rattle.facts.specs.Tables.{fact_at, Carried}
-use Rattle.facts.proofs.Growth.{grows_none, grows_more}
+use Rattle.facts.proofs.Growth.{grows_more}
 
 module _ {F : Type 0} {k : Kind F} (laws : Laws k) (image : List ℕ) (s : F) where
   -- facts that are the same, and were carried on, are carried on in a larger table
@@ -42,12 +43,6 @@ module _ {F : Type 0} {k : Kind F} (laws : Laws k) (image : List ℕ) (s : F) wh
     pub visits_spread : Settled k image s before flags → Visits k image s before flags after flags' changed
     visits_spread old = record { grows = spread.grows; long = spread.noted.long ∙ length-set flags at false; settled = settled_spread old }
 
-  pub visits_none :
-      (table : List F) (flags : List Bool)
-      → Settled k image s table flags
-      → Visits k image s table flags table flags false
-  visits_none table flags settled = record { grows = grows_none laws _ table; long = refl; settled = settled }
-
   pub visits_more :
       {a b c : List F} {u v w : List Bool} {p q : Bool}
       → Visits k image s a u b v p
@@ -55,22 +50,18 @@ module _ {F : Type 0} {k : Kind F} (laws : Laws k) (image : List ℕ) (s : F) wh
       → Visits k image s a u c w (p || q)
   visits_more g h = record { grows = grows_more laws g.grows h.grows; long = h.long ∙ g.long; settled = h.settled }
 
-pub level_visited :
-    {F : Type 0} {k : Kind F} {image : List ℕ} {s : F} {before after : List F} {flags flags' : List Bool} {changed : Bool}
-    → Level image before flags
-    → Visits k image s before flags after flags' changed
-    → Level image after flags'
-level_visited level visits = record { short = level.short; facts = visits.grows.long ∙ level.facts; flagged = visits.long ∙ level.flagged }
-
--- a flag that was not set is as if taken back
-pub unset : (flags : List Bool) (at : ℕ) → flag_at flags at ≡ false → flags ≡ set flags at false
-unset flags at off = sym (ap (λ b. set flags at b) (sym off) ∙ set-get_or flags at false)
-
--- one address more without a flag
-pub none_more :
-    (flags : List Bool) (at : ℕ)
+-- one more of the given addresses without a flag
+pub none_given :
+    (flags : List Bool) (at : ℕ) (given : List ℕ)
     → at < length flags
-    → NoneBelow at flags
-    → NoneBelow (at + 1) (set flags at false)
-none_more flags at inside none =
-    below_more _ _ (λ a h. get_or-set_other flags at a false false (omega arith) ∙ none a h) (get_or-set_same flags at false false inside)
+    → ((a : ℕ) → Contains given a → flag_at flags a ≡ false)
+    → (a : ℕ)
+    → Contains (given ++ at ∷ []) a
+    → flag_at (set flags at false) a ≡ false
+none_given flags at given inside none a has = elim (cases_eq a at) [
+  | inl e ↦ rw e (get_or-set_same flags at false false inside)
+  | inr n ↦ elim (Contains-push_cases given at a has) [
+    | inl before ↦ get_or-set_other flags at a false false n ∙ none a before
+    | inr same ↦ absurd (n (sym same))
+  ]
+]

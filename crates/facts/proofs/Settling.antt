@@ -1,12 +1,15 @@
 -- Why rounds end in the smallest table: what they keep, and what it comes to once nothing changes. Assumes nothing.
-use Rattle.std.proofs.Common.{◌≡◌, ℕ, ◌+◌, ◌-◌, ◌<◌, ◌≤◌, Bool, true, false, List, length, replicate, Some, sym, refl, ap, ◌∙◌, subst, inl, inr, arith}
+use Rattle.std.proofs.Common.{◌≡◌, ℕ, zero, suc, ◌+◌, ◌-◌, ◌<◌, ◌≤◌, Bool, true, false, List, [], ◌∷◌, length, replicate, Some, sym, refl, ap, ◌∙◌, subst, inl, inr, arith}
 use lib.ListN.{length-replicate}
-use Rattle.std.proofs.lemmas.List.{get_or-replicate, get_or_past}
-use Rattle.std.proofs.lemmas.Bool.{cases_lt, both_ways}
+use Rattle.std.proofs.lemmas.List.{get_or-replicate}
+use Rattle.std.proofs.lemmas.Bool.{both_ways}
+use Rattle.std.specs.List.{FoldsTo}
+use Rattle.facts.specs.Keeping.{Keeps, FlowVisits}
 use Rattle.facts.specs.Kinds.{Kind, Covers}
 use Rattle.facts.specs.Laws.{Laws}
 use Rattle.facts.specs.Progress.{Level, room, Raises, Settled, Visits, Begins, Settles, CoversAt, NoneBelow, flag_at}
 use Rattle.facts.specs.Tables.{fact_at, summary, Flows, Below, Smallest}
+use Rattle.facts.specs.declared.flow.Flow.{Flow}
 use Rattle.facts.proofs.Carries.{carry_bottom, carry_mono}
 use Rattle.facts.proofs.Rounding.{settled_noted}
 use Rattle.facts.proofs.Summaries.{summary_mono}
@@ -28,43 +31,33 @@ pub record Settling {F : Type 0} (k : Kind F) (image : List ℕ) (before : List 
       → Below k (length image) before other
       → Covers k (summary k image other) s
 
+-- the same of a flow, by what it was at first
+pub record FlowSettling {F : Type 0} (k : Kind F) (first : Flow F) (s : F) (now : Flow F) : Type 0 where
+  pub settling : Settling k first.image.now first.table.now s now.table.now now.dirty.now
+  pub image : now.image.now ≡ first.image.now
+  pub loan : now.table.ghost_name ≡ first.table.ghost_name
+
 pub Empty : {F : Type 0} → Kind F → List F → Type 0
 Empty k table = (a : ℕ) → fact_at k table a ≡ k.bottom
 
-pub filled_empty :
-    {F : Type 0} (k : Kind F) (n : ℕ) (x : F) (table : List F)
-    → table ≡ replicate n x
-    → x ≡ k.bottom
+pub folded_empty :
+    {F P : Type 0} {R : P → F → P → Type 0} (k : Kind F) (first last : P) (table : List F)
+    → FoldsTo R first table last
+    → ((p : P) (x : F) (q : P) → R p x q → x ≡ k.bottom)
     → Empty k table
 unfolding Empty
-filled_empty k n x table is bottom a = rw (is, bottom) (elim (cases_lt a n) [
-  | inl h ↦ get_or-replicate n a k.bottom k.bottom h
-  | inr h ↦ get_or_past (replicate n k.bottom) a k.bottom (rw (length-replicate n k.bottom) h)
-])
+folded_empty k first last [] folds bottom a = refl
+folded_empty k first last (x ∷ table) folds bottom zero = bottom _ x _ folds.1
+folded_empty k first last (x ∷ table) folds bottom (suc a) = folded_empty k _ last table folds.2 bottom a
 
 pub filled_level :
-    {F : Type 0} {image : List ℕ} {old : List F} {flags : List Bool} (x : F) (table : List F)
+    {F : Type 0} {image : List ℕ} {old table : List F} {flags : List Bool}
     → Level image old flags
-    → table ≡ replicate (length old) x
+    → length table ≡ length old
     → Level image table flags
-filled_level {image = image} {old = old} x table level is = record { short = level.short; facts = ap length is ∙ length-replicate (length old) x ∙ level.facts; flagged = level.flagged }
+filled_level level same = record { short = level.short; facts = same ∙ level.facts; flagged = level.flagged }
 
 module _ {F : Type 0} {k : Kind F} (laws : Laws k) (image : List ℕ) where
-  pub settling_begins :
-      {table : List F} {flags : List Bool} {s : F}
-      → s ≡ k.bottom
-      → Level image table flags
-      → Settled k image k.bottom table flags
-      → Settling k image table s table flags
-  settling_begins {table} {flags} is level settled = record {
-    level = level;
-    long = level.facts;
-    larger = λ a. laws.order.reflexive _;
-    settled = rw is settled;
-    under = λ other flows h. h;
-    summed = λ other flows h. rw is (laws.order.lowest _);
-  }
-
   pub settling_visits :
       {before : List F} {s : F} {table after : List F} {flags flags' : List Bool} {changed : Bool}
       → Settling k image before s table flags
@@ -165,12 +158,37 @@ module _ {F : Type 0} {k : Kind F} (laws : Laws k) (image : List ℕ) where
       below = λ other closed. rw (← level.facts) (raises.grows.above other (λ b e. let here : start ≡ b = cc in rw (← here) (closed.begins inside)) (empty_under (length before) other));
     }
 
-  pub smallest_settled :
-      {start : ℕ} {given s : F} {table after : List F} {flags : List Bool}
-      → Begins k image start given table flags
-      → Settles k image table after s
-      → Smallest k image start given after
-  smallest_settled {start} begins settles = record {
-    closed = record { begins = λ h. laws.order.transitive _ _ _ (settles.larger start) (begins.has h); flows = settles.flows };
-    least = λ other closed. settles.least other closed.flows (begins.below other closed);
+  -- what is left of a table that was lent
+  module _ {s : F} {table after left : List F} (settles : Settles k image table after s) (same : left ≡ after) where
+    pub smallest_left :
+        {start : ℕ} {given : F} {flags : List Bool}
+        → Begins k image start given table flags
+        → Smallest k image start given left
+    smallest_left {start} begins = rw same (record {
+      closed = record { begins = λ h. laws.order.transitive _ _ _ (settles.larger start) (begins.has h); flows = settles.flows };
+      least = λ other closed. settles.least other closed.flows (begins.below other closed);
+    })
+
+    pub value_left : s ≡ summary k image left
+    value_left = rw same settles.value
+
+module _ {F : Type 0} {k : Kind F} (laws : Laws k) {first : Flow F} {s : F} {flow : Flow F} (old : FlowSettling k first s flow) where
+  pub flow_visits :
+      {after : Flow F} {changed : Bool}
+      → FlowVisits k s flow after changed
+      → Keeps flow after
+      → FlowSettling k first s after
+  flow_visits visits keeps = record {
+    settling = settling_visits laws first.image.now old.settling (rw old.image at visits);
+    image = keeps.image ∙ old.image;
+    loan = keeps.loan ∙ old.loan;
   }
+
+  pub flow_settles :
+      (gathered : F)
+      → NoneBelow (length flow.image.now) flow.dirty.now
+      → gathered ≡ summary k flow.image.now flow.table.now
+      → true ≡ k.covers s gathered
+      → Settles k first.image.now first.table.now flow.table.now s
+  flow_settles gathered quiet is covered =
+      settles laws first.image.now gathered old.settling (rw old.image at quiet) (rw old.image at is) covered

@@ -3,11 +3,13 @@ use Rattle.std.proofs.Common.{◌≡◌, ℕ, ◌<◌, Bool, false, ◌||◌, Li
 use Rattle.std.proofs.lemmas.List.{get_or_read}
 use Rattle.std.proofs.lemmas.Bool.Decides.{nat_tests}
 use Rattle.std.proofs.lemmas.Bool.{lt-ltb}
-use Rattle.words.specs.Codec.{Writes, OneInstructionEach}
+use Rattle.words.specs.Codec.{Decodes, Writes, answer_of}
+use Rattle.words.specs.Decoding.{instruction_of}
 use Rattle.words.specs.declared.instruction.Instruction.{Instruction}
+use Rattle.words.proofs.Codec.{one_instruction_each, written_computed}
 use Rattle.facts.specs.Kinds.{Kind, Covers}
 use Rattle.facts.specs.Laws.{Laws}
-use Rattle.facts.specs.Progress.{Raises, SuccessorsBelow, CoversAt, Receives, Spreads, FlowsOver}
+use Rattle.facts.specs.Progress.{Raises, CoversAt, Receives, Spreads, FlowsOver}
 use Rattle.facts.specs.Successors.{successors, inside, within, Edge, past, enter, resume, Leads}
 use Rattle.facts.specs.Tables.{fact_at, summary, carry, Carried, Below}
 use Rattle.facts.specs.declared.successors.Successors.{Successors}
@@ -22,13 +24,9 @@ from_inside words None b e = grind arith
 from_inside words (Some (pos a)) b e = grind (arith, nat_tests)
 from_inside words (Some (negsuc a)) b e = grind arith
 
-pub within_below : (words : ℕ) (s : Successors ℤ) → SuccessorsBelow words (within words s)
-within_below words s = record {
-  next = λ b e. (from_inside words s.next b e).1;
-  target = λ b e. (from_inside words s.target b e).1;
-  routine = λ b e. (from_inside words s.routine b e).1;
-  resumed = λ b e. (from_inside words s.resume b e).1;
-}
+-- a word is written by the instruction that it computes to
+pub writes_word : (word : ℕ) (i : Instruction) → instruction_of word ≡ Some i → Writes i word
+writes_word word i e = (subst (λ o. Decodes word (answer_of o)) e (one_instruction_each.decoded word)).1
 
 module _ {F : Type 0} {k : Kind F} (laws : Laws k) where
   kept :
@@ -56,7 +54,7 @@ module _ {F : Type 0} {k : Kind F} (laws : Laws k) where
           reached = record { next = all.reached.0.0.0; target = all.reached.0.0.1; routine = all.reached.0.1; resumed = all.reached.1 };
         }
 
-  module _ (each : OneInstructionEach) (image : List ℕ) (at : ℕ) (i : Instruction) (writes : Writes i (get_or image at 0)) (s : F) where
+  module _ (image : List ℕ) (at : ℕ) (i : Instruction) (writes : Writes i (get_or image at 0)) (s : F) where
     carried_on :
         (table : List F) (x : F)
         → Receives k (within (length image) (successors at i)) (k.past i x) (k.enter x) (k.resume s x) table
@@ -64,7 +62,7 @@ module _ {F : Type 0} {k : Kind F} (laws : Laws k) where
     carried_on table x h edge j b step = go edge (subst (λ q. Leads (successors at q) edge (pos b)) same step.leads) (subst (λ q. Covers k (fact_at k table b) (carry k edge q s x)) (sym same))
       where
         same : j ≡ i
-        same = each.only j i _ step.writes writes
+        same = one_instruction_each.only j i _ step.writes writes
 
         go :
             (edge : Edge)
@@ -129,10 +127,10 @@ module _ {F : Type 0} {k : Kind F} (laws : Laws k) where
   -- nothing is carried on from a word that no instruction writes
   pub spreads_none :
       (image : List ℕ) (at : ℕ) (s : F) (table : List F) (flags : List Bool)
-      → ((i : Instruction) → Writes i (get_or image at 0) → ⊥)
+      → instruction_of (get_or image at 0) ≡ None
       → Spreads k image s at table flags table flags false
   spreads_none image at s table flags none = record {
     grows = grows_none laws _ table;
     noted = noted_none laws table flags;
-    carried = λ edge i b step. absurd (none i step.writes);
+    carried = λ edge i b step. let some = written_computed i _ step.writes in grind arith;
   }

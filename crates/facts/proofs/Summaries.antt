@@ -1,48 +1,8 @@
 -- The summary of a table: how it is gathered, and that it is the least fact above those at the named words. Assumes nothing.
-use Rattle.std.proofs.Common.{◌≡◌, ℕ, zero, suc, ◌+◌, ◌-◌, ◌<◌, ◌≤◌, Bool, true, false, cond, List, [], ◌∷◌, length, get_or, take, drop, sym, refl, ap, ◌∙◌, arith}
-use Rattle.std.proofs.lemmas.List.{drop_more, drop_all, get_or_read}
-use Rattle.std.proofs.lemmas.Bool.{cond-true, cond-false}
+use Rattle.std.proofs.Common.{◌≡◌, ℕ, zero, suc, ◌+◌, ◌<◌, Bool, true, false, cond, List, [], ◌∷◌, length, get_or, take, sym, refl, ap, ◌∙◌, arith}
 use Rattle.facts.specs.Kinds.{Kind, Covers}
 use Rattle.facts.specs.Laws.{Laws}
 use Rattle.facts.specs.Tables.{fact_at, summary, Below}
-
-pub summary_end :
-    {F : Type 0} (k : Kind F) (image : List ℕ) (table : List F)
-    → summary k (drop (length image) image) (drop (length image) table) ≡ k.bottom
-summary_end k image table = rw (drop_all (length image) image (omega arith)) refl
-
--- one word more, before those that are counted
-module _ {F : Type 0} (k : Kind F) (image : List ℕ) (table : List F) (n : ℕ) (some : 0 < n) (within : n ≤ length image) (long : length image ≤ length table) where
-  summary_at : summary k (drop (n - 1) image) (drop (n - 1) table) ≡ cond (k.names (get_or image (n - 1) 0)) (k.join (fact_at k table (n - 1)) (summary k (drop n image) (drop n table))) (summary k (drop n image) (drop n table))
-  summary_at =
-      let next : n - 1 + 1 ≡ n = omega arith in
-      rw (drop_more image (n - 1) 0 (omega arith), drop_more table (n - 1) k.bottom (omega arith), next) refl
-
-  pub summary_named :
-      (x joined : F)
-      → x ≡ get_or table (n - 1) x
-      → k.names (get_or image (n - 1) 0) ≡ true
-      → joined ≡ summary k (drop n image) (drop n table)
-      → k.join x joined ≡ summary k (drop (n - 1) image) (drop (n - 1) table)
-  summary_named x joined read named is = sym (summary_at ∙ cond-true _ _ _ named ∙ (λ j. k.join (sym held j) (sym is j)))
-    where
-      held : x ≡ fact_at k table (n - 1)
-      held = get_or_read table (n - 1) x (omega arith) read k.bottom
-
-  pub summary_unnamed :
-      (joined : F)
-      → k.names (get_or image (n - 1) 0) ≡ false
-      → joined ≡ summary k (drop n image) (drop n table)
-      → joined ≡ summary k (drop (n - 1) image) (drop (n - 1) table)
-  summary_unnamed joined unnamed is = is ∙ sym (summary_at ∙ cond-false _ _ _ unnamed)
-
--- only the facts at the words of the image count
-pub summary_take :
-    {F : Type 0} (k : Kind F) (image : List ℕ) (table : List F)
-    → summary k image (take (length image) table) ≡ summary k image table
-summary_take k [] table = refl
-summary_take k (w ∷ image) [] = refl
-summary_take k (w ∷ image) (x ∷ table) = ap (λ s. cond (k.names w) (k.join x s) s) (summary_take k image table)
 
 module _ {F : Type 0} {k : Kind F} (laws : Laws k) where
   pub summary_least :
@@ -83,3 +43,48 @@ module _ {F : Type 0} {k : Kind F} (laws : Laws k) where
       → Below k (length image) table other
       → Covers k (summary k image other) (summary k image table)
   summary_mono image table other under = summary_least image table _ (λ a h named. laws.order.transitive _ _ _ (summary_above image other a h named) (under a h))
+
+  join_bottom : (x : F) → k.join k.bottom x ≡ k.join x k.bottom
+  join_bottom x = laws.order.antisymmetric _ _
+      (laws.joins.least _ _ _ (laws.joins.right _ _) (laws.joins.left _ _))
+      (laws.joins.least _ _ _ (laws.joins.right _ _) (laws.joins.left _ _))
+
+  join_assoc : (x y z : F) → k.join x (k.join y z) ≡ k.join (k.join x y) z
+  join_assoc x y z = laws.order.antisymmetric _ _
+      (laws.joins.least _ _ _ (laws.joins.least _ _ _ (laws.joins.left _ _) (laws.order.transitive _ _ _ (laws.joins.right _ _) (laws.joins.left _ _))) (laws.order.transitive _ _ _ (laws.joins.right _ _) (laws.joins.right _ _)))
+      (laws.joins.least _ _ _ (laws.order.transitive _ _ _ (laws.joins.left _ _) (laws.joins.left _ _)) (laws.joins.least _ _ _ (laws.order.transitive _ _ _ (laws.joins.left _ _) (laws.joins.right _ _)) (laws.joins.right _ _)))
+
+  summary_more :
+      (image : List ℕ) (table : List F) (n : ℕ)
+      → n < length image
+      → n < length table
+      → cond (k.names (get_or image n 0)) (k.join (summary k (take n image) table) (fact_at k table n)) (summary k (take n image) table) ≡ summary k (take (suc n) image) table
+  summary_more [] table n h l = absurd (omega arith)
+  summary_more (w ∷ image) [] n h l = absurd (omega arith)
+  summary_more (w ∷ image) (x ∷ table) zero h l = go (k.names w)
+    where
+      go : (b : Bool) → cond b (k.join k.bottom x) k.bottom ≡ cond b (k.join x k.bottom) k.bottom
+      go true = join_bottom x
+      go false = refl
+  summary_more (w ∷ image) (x ∷ table) (suc n) h l = go (k.names w) (k.names (get_or image n 0)) (summary_more image table n (omega arith) (omega arith))
+    where
+      go :
+          (b c : Bool)
+          → cond c (k.join (summary k (take n image) table) (fact_at k table n)) (summary k (take n image) table) ≡ summary k (take (suc n) image) table
+          → cond c (k.join (cond b (k.join x (summary k (take n image) table)) (summary k (take n image) table)) (fact_at k table n)) (cond b (k.join x (summary k (take n image) table)) (summary k (take n image) table)) ≡ cond b (k.join x (summary k (take (suc n) image) table)) (summary k (take (suc n) image) table)
+      go true true e = sym (join_assoc x _ _) ∙ ap (k.join x) e
+      go true false e = ap (k.join x) e
+      go false c e = e
+
+  -- one word more
+  pub summary_turn :
+      (image : List ℕ) (table : List F) (n m w : ℕ) (x joined : F)
+      → m ≡ n + 1
+      → n < length image
+      → n < length table
+      → w ≡ get_or image n 0
+      → x ≡ fact_at k table n
+      → joined ≡ summary k (take n image) table
+      → cond (k.names w) (k.join joined x) joined ≡ summary k (take m image) table
+  summary_turn image table n m w x joined more h l word fact is =
+      let next : m ≡ suc n = omega arith in rw (word, fact, is, next) (summary_more image table n h l)

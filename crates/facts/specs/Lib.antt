@@ -1,6 +1,9 @@
+pub mod Keeping
 pub mod Kinds
 pub mod Laws
 pub mod Marks
+pub mod MarksLaws
+pub mod Orders
 pub mod Progress
 pub mod Spans
 pub mod Successors

@@ -9,7 +9,6 @@ use Rattle.facts.specs.Kinds.{Kind}
 use Rattle.facts.specs.Written.{written}
 use Rattle.facts.specs.declared.interval.Interval.{Interval}
 use Rattle.facts.specs.declared.spans.PageSpans.{PageSpans}
-use Rattle.facts.specs.declared.spans.PageSpans.TheVariants.{Nothing, Spans}
 
 abbrev pub point : ℕ → Interval
 point c = record { low = c; high = c; ordered = omega arith }
@@ -65,32 +64,44 @@ is register (Some rd) = rd == register
 abbrev pub moved : ℕ → Instruction → Interval → Interval
 moved register i x = cond (is register (written i)) (computed i x) x
 
-abbrev pub joined : PageSpans → PageSpans → PageSpans
-joined Nothing y = y
-joined (Spans a b) Nothing = Spans a b
-joined (Spans a b) (Spans c d) = Spans (hull a c) (hull b d)
+abbrev pub zero_both : PageSpans
+zero_both = record { r14 = point 0; r15 = point 0 }
 
-abbrev pub covered : PageSpans → PageSpans → Bool
-covered Nothing Nothing = true
-covered Nothing (Spans c d) = false
-covered (Spans a b) Nothing = true
-covered (Spans a b) (Spans c d) = contains a c && contains b d
+abbrev pub hull_both : PageSpans → PageSpans → PageSpans
+hull_both x y = record { r14 = hull x.r14 y.r14; r15 = hull x.r15 y.r15 }
 
-abbrev pub extent : PageSpans → ℕ
-extent Nothing = 0
-extent (Spans a b) = 1 + (width a + width b)
+abbrev pub contains_both : PageSpans → PageSpans → Bool
+contains_both x y = contains x.r14 y.r14 && contains x.r15 y.r15
 
-abbrev pub move_both : Instruction → PageSpans → PageSpans
-move_both i Nothing = Nothing
-move_both i (Spans a b) = Spans (moved 14 i a) (moved 15 i b)
+abbrev pub moved_both : Instruction → PageSpans → PageSpans
+moved_both i x = record { r14 = moved 14 i x.r14; r15 = moved 15 i x.r15 }
 
-abbrev pub summed : PageSpans → PageSpans → PageSpans
-summed s Nothing = Nothing
-summed s (Spans a b) = s
+abbrev pub joined : Option PageSpans → Option PageSpans → Option PageSpans
+joined None y = y
+joined (Some x) None = Some x
+joined (Some x) (Some y) = Some (hull_both x y)
 
-abbrev pub spans : Kind PageSpans
+abbrev pub covered : Option PageSpans → Option PageSpans → Bool
+covered None None = true
+covered None (Some y) = false
+covered (Some x) None = true
+covered (Some x) (Some y) = contains_both x y
+
+abbrev pub extent : Option PageSpans → ℕ
+extent None = 0
+extent (Some x) = 1 + (width x.r14 + width x.r15)
+
+abbrev pub move_both : Instruction → Option PageSpans → Option PageSpans
+move_both i None = None
+move_both i (Some x) = Some (moved_both i x)
+
+abbrev pub summed : Option PageSpans → Option PageSpans → Option PageSpans
+summed s None = None
+summed s (Some x) = s
+
+abbrev pub spans : Kind (Option PageSpans)
 spans = record {
-  bottom = Nothing;
+  bottom = None;
   join = joined;
   covers = covered;
   rank = extent;

@@ -3,6 +3,7 @@
 
 pub mod engine;
 pub mod fact;
+mod flow;
 pub mod interval;
 pub mod marks;
 pub mod spans;

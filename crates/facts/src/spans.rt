@@ -1,6 +1,6 @@
 // Page spans: the intervals in which the page registers R14 and R15 lie.
 ghost use Rattle.std.specs.Prelude.{◌≡◌};
-ghost use Rattle.facts.specs.Spans.{point, up_to, hull, contains, moved, spans};
+ghost use Rattle.facts.specs.Spans.{point, up_to, hull, contains, moved, zero_both, hull_both, contains_both, moved_both, spans};
 ghost use Rattle.facts.specs.Marks.{marks};
 ghost use Rattle.facts.specs.Theorems.{SameMarked};
 ghost use Rattle.facts.specs.SpansLaws.{spans_laws};
@@ -12,6 +12,7 @@ use words::codes::Operation;
 use words::instruction::Instruction;
 
 impl Interval {
+    #[tactic(auto, using(crate::specs::Intervals::same_interval))]
     pub fn point(value: u8) -> Interval
         ensures { result ≡ point value }
     {
@@ -21,6 +22,7 @@ impl Interval {
         }
     }
 
+    #[tactic(auto, using(crate::specs::Intervals::same_interval))]
     pub fn up_to(high: u8) -> Interval
         ensures { result ≡ up_to high }
     {
@@ -28,6 +30,7 @@ impl Interval {
     }
 
     // The smallest interval that contains both.
+    #[tactic(auto, using(crate::specs::Intervals::same_interval))]
     pub fn hull(self, other: Interval) -> Interval
         ensures { result ≡ hull self other }
     {
@@ -66,71 +69,82 @@ impl Interval {
     }
 }
 
+// Where the page registers lie: the low one and the high one.
 #[derive(Clone, Copy, Debug, PartialEq, Eq)]
-pub enum PageSpans {
-    // No path comes here.
-    Nothing,
-    // The low page register and the high one.
-    Spans { r14: Interval, r15: Interval },
+pub struct PageSpans {
+    pub r14: Interval,
+    pub r15: Interval,
 }
 
-impl Fact for PageSpans {
+impl PageSpans {
+    // Both registers are 0.
+    pub fn zero() -> PageSpans
+        ensures { result ≡ zero_both }
+    {
+        PageSpans {
+            r14: Interval::point(0),
+            r15: Interval::point(0),
+        }
+    }
+
+    // The smallest spans that contain both.
+    pub(crate) fn hull(self, other: PageSpans) -> PageSpans
+        ensures { result ≡ hull_both self other }
+    {
+        PageSpans {
+            r14: self.r14.hull(other.r14),
+            r15: self.r15.hull(other.r15),
+        }
+    }
+
+    pub(crate) fn contains(self, other: PageSpans) -> bool
+        ensures { result ≡ contains_both self other }
+    {
+        self.r14.contains(other.r14) && self.r15.contains(other.r15)
+    }
+
+    // Where the registers lie past an instruction, if they lay here.
+    pub(crate) fn moved(self, instruction: Instruction) -> PageSpans
+        ensures { result ≡ moved_both instruction self }
+    {
+        PageSpans {
+            r14: self.r14.moved(14, instruction),
+            r15: self.r15.moved(15, instruction),
+        }
+    }
+}
+
+// None where no path comes.
+impl Fact for Option<PageSpans> {
     ghost kind = { spans };
 
     ghost laws = { spans_laws };
 
-    fn bottom() -> PageSpans {
-        PageSpans::Nothing
+    fn bottom() -> Option<PageSpans> {
+        None
     }
 
-    fn join(self, other: PageSpans) -> PageSpans {
-        match self {
-            PageSpans::Nothing => other,
-            PageSpans::Spans { r14, r15 } => match other {
-                PageSpans::Nothing => self,
-                PageSpans::Spans {
-                    r14: low,
-                    r15: high,
-                } => PageSpans::Spans {
-                    r14: r14.hull(low),
-                    r15: r15.hull(high),
-                },
-            },
+    fn join(self, other: Option<PageSpans>) -> Option<PageSpans> {
+        match (self, other) {
+            (Some(here), Some(there)) => Some(here.hull(there)),
+            _ => self.or(other),
         }
     }
 
-    fn covers(self, other: PageSpans) -> bool {
-        match other {
-            PageSpans::Nothing => true,
-            PageSpans::Spans {
-                r14: low,
-                r15: high,
-            } => match self {
-                PageSpans::Nothing => false,
-                PageSpans::Spans { r14, r15 } => r14.contains(low) && r15.contains(high),
-            },
-        }
+    fn covers(self, other: Option<PageSpans>) -> bool {
+        other.is_none_or(|there| self.is_some_and(|here| here.contains(there)))
     }
 
-    fn past(self, instruction: Instruction) -> PageSpans {
-        match self {
-            PageSpans::Nothing => PageSpans::Nothing,
-            PageSpans::Spans { r14, r15 } => PageSpans::Spans {
-                r14: r14.moved(14, instruction),
-                r15: r15.moved(15, instruction),
-            },
-        }
+    fn past(self, instruction: Instruction) -> Option<PageSpans> {
+        self.map(|here| here.moved(instruction))
     }
 
-    fn enter(self) -> PageSpans {
+    fn enter(self) -> Option<PageSpans> {
         self
     }
 
-    fn resume(self, summary: PageSpans) -> PageSpans {
-        match self {
-            PageSpans::Nothing => PageSpans::Nothing,
-            PageSpans::Spans { .. } => summary,
-        }
+    fn resume(self, summary: Option<PageSpans>) -> Option<PageSpans> {
+        self.and(summary)
     }
 
     fn names(_word: u32) -> bool {

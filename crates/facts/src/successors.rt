@@ -21,43 +21,53 @@ pub struct Successors<A> {
 fn inside(address: Option<i32>, words: usize) -> Option<usize>
     ensures { result ≡ inside words address }
 {
-    match address {
-        Some(address) if 0 <= address && (address as usize) < words => Some(address as usize),
-        _ => None,
-    }
+    usize::try_from(address?)
+        .ok()
+        .filter(|address| *address < words)
 }
 
 impl Successors<i32> {
+    // No address.
+    const NOWHERE: Successors<i32> = Successors {
+        next: None,
+        target: None,
+        routine: None,
+        resume: None,
+    };
+
     // All of them, also where no image has such an address.
     pub fn of(address: u16, instruction: Instruction) -> Successors<i32>
         ensures { result ≡ successors address instruction }
     {
-        let mut all = Successors {
-            next: None,
-            target: None,
-            routine: None,
-            resume: None,
-        };
         let here = i32::from(address);
+        let after = Some(here + 1);
         match instruction {
-            Instruction::Return | Instruction::ReturnFromInterrupt => {}
-            Instruction::Branch { offset } => all.target = Some(here + i32::from(offset)),
-            Instruction::BranchIf { offset, .. } => {
-                all.next = Some(here + 1);
-                all.target = Some(here + i32::from(offset));
-            }
-            Instruction::Call { offset } => {
-                all.routine = Some(here + i32::from(offset));
-                all.resume = Some(here + 1);
-            }
-            Instruction::CallIf { offset, .. } => {
-                all.next = Some(here + 1);
-                all.routine = Some(here + i32::from(offset));
-                all.resume = Some(here + 1);
-            }
-            _ => all.next = Some(here + 1),
+            Instruction::Return | Instruction::ReturnFromInterrupt => Successors::NOWHERE,
+            Instruction::Branch { offset } => Successors {
+                target: Some(here + i32::from(offset)),
+                ..Successors::NOWHERE
+            },
+            Instruction::BranchIf { offset, .. } => Successors {
+                next: after,
+                target: Some(here + i32::from(offset)),
+                ..Successors::NOWHERE
+            },
+            Instruction::Call { offset } => Successors {
+                routine: Some(here + i32::from(offset)),
+                resume: after,
+                ..Successors::NOWHERE
+            },
+            Instruction::CallIf { offset, .. } => Successors {
+                next: after,
+                routine: Some(here + i32::from(offset)),
+                resume: after,
+                ..Successors::NOWHERE
+            },
+            _ => Successors {
+                next: after,
+                ..Successors::NOWHERE
+            },
         }
-        all
     }
 
     // Those that lie in an image of so many words.

@@ -13,20 +13,20 @@ pub fn written(instruction: Instruction) -> Option<u8>
         Instruction::Register {
             operation: Operation::Cmp | Operation::Test,
             ..
-        } => None,
-        Instruction::Immediate {
+        }
+        | Instruction::Immediate {
             operation: Operation::Cmp | Operation::Test,
             ..
         } => None,
-        Instruction::Register { rd, .. } => Some(rd),
-        Instruction::Immediate { rd, .. } => Some(rd),
-        Instruction::Rotate { rd, .. } => Some(rd),
-        Instruction::Direct {
+        Instruction::Register { rd, .. }
+        | Instruction::Immediate { rd, .. }
+        | Instruction::Rotate { rd, .. }
+        | Instruction::Direct {
             transfer: Transfer::Import | Transfer::Load,
             rd,
             ..
-        } => Some(rd),
-        Instruction::Indirect {
+        }
+        | Instruction::Indirect {
             transfer: Transfer::Import | Transfer::Load,
             rd,
             ..

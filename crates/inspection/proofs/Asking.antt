@@ -1,5 +1,6 @@
 -- What the successors of a word ask for, of the needs of a list. Assumes nothing.
-use Rattle.std.proofs.Common.{◌≡◌, ℕ, ◌+◌, ◌<◌, ◌≤◌, min, max, List, length, get_or, pos, Some, None, Option, refl, ap, subst, inl, inr, arith}
+use Rattle.std.proofs.Common.{◌≡◌, ℕ, ◌+◌, ◌<◌, ◌≤◌, min, max, List, length, get_or, pos, Some, None, Option, refl, sym, ap, ◌∙◌, subst, inl, inr, arith}
+use Rattle.std.proofs.lemmas.Option.{none-some}
 use Rattle.words.specs.declared.instruction.Instruction.{Instruction}
 use Rattle.words.specs.Decoding.{instruction_of}
 use Rattle.words.proofs.Codec.{written_computed}
@@ -21,14 +22,11 @@ module _ (need : List ℕ) (k : ℕ) where
 same_instruction : (i j : Instruction) (found : Option Instruction) → found ≡ Some i → found ≡ Some j → j ≡ i
 same_instruction i j found p q = cc
 
-none_some : (i : Instruction) (found : Option Instruction) → found ≡ None → found ≡ Some i → ⊥
-none_some i found p q = let z : ◌≡◌ {A = ℕ} 0 1 = cc in omega arith
-
 module _ (image need : List ℕ) (at : ℕ) where
   -- a word that is no instruction has no successors
   pub asks_none : instruction_of (get_or image at 0) ≡ None → Asks image need at 0
   asks_none none = record {
-    enough = λ edge i b step. absurd (none_some i _ none (written_computed i _ step.writes));
+    enough = λ edge i b step. absurd (none-some i (sym none ∙ written_computed i _ step.writes));
     least = λ k h. omega arith;
   }
 

@@ -1,27 +1,25 @@
 -- What the search for the causes 5 to 9 finds, or does not find, at an address. Assumes nothing.
-use Rattle.std.proofs.Common.{◌≡◌, ℕ, Bool, true, false, cond, not, ◌&&◌, ◌||◌, ltb, ◌⊎◌, List, length, ℤ, pos, negsuc, Some, None, Option, sym, refl, ap, ◌∙◌, subst, inl, inr, ⊎_elim, arith}
+use Rattle.std.proofs.Common.{◌≡◌, ℕ, Bool, true, false, cond, not, ◌&&◌, ◌||◌, ltb, ◌⊎◌, List, length, ℤ, pos, negsuc, Some, None, Option, sym, refl, ap, ◌∙◌, subst, inl, inr, ⊎_elim}
 use Rattle.std.proofs.lemmas.Bool.{and_from, and_parts, both_ways, cond-false, eqb-true, eq-eqb, false≢true, not-true, or_cases, or_left, or_right}
+use Rattle.std.proofs.lemmas.Option.{none-some}
 use Rattle.refusals.specs.declared.Refusal.{Refusal}
 use Rattle.refusals.specs.declared.Refusal.TheVariants.{PageRegisterWritten}
 use Rattle.words.specs.declared.instruction.Instruction.{Instruction}
 use Rattle.words.specs.declared.instruction.Instruction.TheVariants.{Register, Immediate, Rotate, Flag, Direct, Indirect, BranchIf, CallIf, Call, Return, ReturnFromInterrupt, Branch}
 use Rattle.words.specs.Addresses.{inside_image}
-use Rattle.facts.specs.declared.marks.FrameMarks.{FrameMarks}
 use Rattle.facts.specs.declared.successors.Successors.{Successors}
 use Rattle.facts.specs.Spans.{is}
 use Rattle.facts.specs.Successors.{Edge, past, enter, resume, Leads, successors}
 use Rattle.facts.specs.Written.{written}
+use Rattle.facts.specs.Marks.{any_frame}
 use Rattle.ledger.specs.declared.row.Row.{Row}
 use Rattle.ledger.specs.Causes.{instruction_at, LeadsOutside, Undefined, MixedFrames, MisplacedReturn, WritesPageRegister}
-use Rattle.ledger.specs.Rows.{any_frame, main_at, handler_at, Marked}
+use Rattle.ledger.specs.Rows.{main_at, handler_at, Marked}
 use Rattle.ledger.specs.Verdicts.{Clear, CauseAt, outside, undefined, mixed, misplaced}
 use Rattle.ledger.specs.Verdicts.{written as writing}
 use Rattle.inspection.specs.Looking.{outside_image, escapes, leaves, either_marked, writes_page, cause_of, word_cause, instruction_cause}
 use Rattle.inspection.specs.Looking.{mixed as is_mixed, misplaced as is_misplaced}
 use Rattle.inspection.proofs.Choosing.{cond_some, cond_none}
-
-none_some : {X : Type 0} (x : X) → None ≡ Some x → ⊥
-none_some x e = let z : ◌≡◌ {A = ℕ} 0 1 = cc in omega arith
 
 same_some : {X : Type 0} (x y : X) → Some x ≡ Some y → x ≡ y
 same_some x y e = cc
@@ -35,7 +33,7 @@ none_outside : (words : ℕ) (to : ℤ) → inside_image words to ≡ None → o
 none_outside words (pos address) e = go (ltb address words) e
   where
     go : (b : Bool) → cond b (Some address) None ≡ None → not b ≡ true
-    go true h = absurd (none_some address (sym h))
+    go true h = absurd (none-some address (sym h))
     go false h = refl
 none_outside words (negsuc below) e = refl
 
@@ -74,9 +72,6 @@ is_some register (Some rd) e = ap Some (eqb-true rd register e)
 some_is : (register : ℕ) (o : Option ℕ) → o ≡ Some register → is register o ≡ true
 some_is register o e = ap (is register) e ∙ eq-eqb register register refl
 
-any_outer : (m : FrameMarks) → m.outer ≡ true → any_frame m ≡ true
-any_outer m e = or_left _ _ e
-
 module _ (image : List ℕ) (rows : List Row) (a : ℕ) where
   either_marked_lem : Marked rows a → either_marked (main_at rows a) (handler_at rows a) ≡ true
   either_marked_lem m = ⊎_elim (or_left _ _) (or_right _ _) m
@@ -105,7 +100,7 @@ module _ (image : List ℕ) (rows : List Row) (a : ℕ) where
     this j e = same_some j i (sym e ∙ found)
 
     defined_here : Undefined image rows a → ⊥
-    defined_here c = none_some i (sym c.none ∙ found)
+    defined_here c = none-some i (sym c.none ∙ found)
 
     inside_here : leaves (length image) (successors a i) ≡ false → LeadsOutside image rows a → ⊥
     inside_here e c = both_ways _ e (out_leaves (length image) (successors a i) c.edge c.to (subst (λ j. Leads (successors a j) c.edge c.to) (this c.instruction c.found) c.leads) c.outside)
@@ -167,7 +162,7 @@ module _ (image : List ℕ) (rows : List Row) (a : ℕ) where
       last_cause : {refusal : Refusal} → leaves (length image) (successors a i) ≡ false → (is_mixed (main_at rows a) || is_mixed (handler_at rows a)) ≡ false → is_misplaced i (main_at rows a) (handler_at rows a) ≡ false → cond (any_frame (handler_at rows a) && writes_page i) (Some (PageRegisterWritten a)) None ≡ Some refusal → CauseAt image rows a refusal
       last_cause {refusal} p q r e = ⊎_elim
           (λ k. subst (CauseAt image rows a) k.1 (writing (inside_here p) defined_here (apart_here q) (returns_here r) (writes_found k.0)))
-          (λ k. absurd (none_some refusal k.1))
+          (λ k. absurd (none-some refusal k.1))
           (cond_some _ _ _ e)
 
       pub instruction_cause_lem : {refusal : Refusal} → instruction_cause (length image) a i (main_at rows a) (handler_at rows a) ≡ Some refusal → CauseAt image rows a refusal
@@ -183,11 +178,11 @@ module _ (image : List ℕ) (rows : List Row) (a : ℕ) where
           (cond_some _ _ _ e)
 
   word_clear : (found : Option Instruction) → instruction_at image a ≡ found → word_cause (length image) a found (main_at rows a) (handler_at rows a) ≡ None → Clear image rows a
-  word_clear None f e = absurd (none_some _ (sym e))
+  word_clear None f e = absurd (none-some _ (sym e))
   word_clear (Some i) f e = instruction_clear i f e
 
   word_cause_lem : {refusal : Refusal} → Marked rows a → (found : Option Instruction) → instruction_at image a ≡ found → word_cause (length image) a found (main_at rows a) (handler_at rows a) ≡ Some refusal → CauseAt image rows a refusal
-  word_cause_lem mark None f e = subst (CauseAt image rows a) (same_some _ _ e) (undefined (λ c. none_some c.instruction (sym f ∙ c.found)) (record { marked = mark; none = f }))
+  word_cause_lem mark None f e = subst (CauseAt image rows a) (same_some _ _ e) (undefined (λ c. none-some c.instruction (sym f ∙ c.found)) (record { marked = mark; none = f }))
   word_cause_lem mark (Some i) f e = instruction_cause_lem i f mark e
 
   pub clear_here : cause_of (length image) a (instruction_at image a) (main_at rows a) (handler_at rows a) ≡ None → Clear image rows a
@@ -202,4 +197,4 @@ module _ (image : List ℕ) (rows : List Row) (a : ℕ) where
     where
       go : (b : Bool) → either_marked (main_at rows a) (handler_at rows a) ≡ b → cond b (word_cause (length image) a (instruction_at image a) (main_at rows a) (handler_at rows a)) None ≡ Some refusal → CauseAt image rows a refusal
       go true m h = word_cause_lem (or_cases _ _ m) (instruction_at image a) refl h
-      go false m h = absurd (none_some refusal h)
+      go false m h = absurd (none-some refusal h)

@@ -2,8 +2,8 @@
 --
 --   needs_found   what two rounds, from high addresses to low, make of no needs
 --   Computed      the tests by which the facts are the smallest, the needs the least, and no cause from 5 to 9 holds
-use Rattle.std.proofs.Common.{◌≡◌, ℕ, zero, suc, ◌+◌, ◌<◌, ◌≤◌, min, max, Bool, true, false, cond, not, ◌||◌, eqb, leb, List, map, length, get_or, Some, None, Option, refl, inl, inr, ⊎_elim, arith}
-use Rattle.std.proofs.lemmas.List.{get_or_past}
+use Rattle.std.proofs.Common.{◌≡◌, ℕ, zero, suc, ◌+◌, ◌<◌, ◌≤◌, min, max, Bool, true, false, cond, not, ◌||◌, eqb, leb, List, map, length, get_or, Some, None, Option, refl, sym, ap, ◌∙◌, subst, inl, inr, ⊎_elim, arith}
+use Rattle.std.proofs.lemmas.List.{ext_get_or, get_or_past, length-map}
 use Rattle.std.proofs.lemmas.Bool.{both_ways, cases_lt, eqb-true, le-leb, leb-true, not_from_true, or_cases, false≢true}
 use Rattle.std.specs.List.{range_with_len}
 use Rattle.refusals.specs.declared.Refusal.{Refusal}
@@ -11,27 +11,30 @@ use Rattle.words.specs.declared.instruction.Instruction.{Instruction}
 use Rattle.words.specs.Decoding.{instruction_of}
 use Rattle.facts.specs.declared.marks.FrameMarks.{FrameMarks}
 use Rattle.facts.specs.declared.spans.PageSpans.{PageSpans}
-use Rattle.facts.specs.Marks.{marks}
+use Rattle.facts.specs.Marks.{marks, unmarked}
 use Rattle.facts.specs.Spans.{spans}
 use Rattle.facts.specs.Successors.{Edge, successors, within}
-use Rattle.facts.specs.Tables.{summary}
+use Rattle.facts.specs.Tables.{Smallest, fact_at, summary}
 use Rattle.facts.proofs.Computing.{every, every_below, every_step, step_tested, closes, raise, two_rounds, Under, raise_under, nothing_under, smallest_computed}
 use Rattle.facts.proofs.Lasting.{marks_laws}
 use Rattle.facts.specs.SpansLaws.{spans_laws}
 use Rattle.ledger.specs.declared.owned.OwnedPages.{OwnedPages}
 use Rattle.ledger.specs.declared.row.Row.{Row}
-use Rattle.ledger.specs.Interrupts.{outermost, handler_start}
+use Rattle.ledger.specs.Causes.{instruction_at}
+use Rattle.ledger.specs.Interrupts.{interruptible, outermost, handler_start}
 use Rattle.ledger.specs.Ledgers.{zero_spans}
 use Rattle.ledger.specs.Needs.{pushes, deepest}
+use Rattle.ledger.specs.Rows.{mains, handlers, page_spans, needs}
+use Rattle.inspection.specs.Facts.{Facts}
 use Rattle.inspection.specs.First.{NoneBefore}
 use Rattle.inspection.specs.Inspects.{Passes, Refused}
-use Rattle.inspection.specs.Looking.{cause_in, foreign_in}
+use Rattle.inspection.specs.Looking.{cause_in, foreign_of, foreign_in}
 use Rattle.inspection.specs.Needing.{cap, needing, need_of, called_need, marked_in, Allowed, Asks, Settled}
-use Rattle.inspection.specs.Recording.{row_in}
+use Rattle.inspection.specs.Recording.{row_in, Records}
 use Rattle.inspection.proofs.Asking.{asks, asks_none}
-use Rattle.inspection.proofs.Deciding.{Found, passes, caused_foreign}
+use Rattle.inspection.proofs.Deciding.{passes, caused_foreign}
 use Rattle.inspection.proofs.Lifting.{needing_laws}
-use Rattle.inspection.proofs.Recorded.{record_of}
+use Rattle.inspection.proofs.Recorded.{record_of, facts_recorded, main_recorded, handler_recorded, need_recorded, spans_recorded}
 use Rattle.inspection.proofs.Verdicts.{refused}
 
 abbrev pub is_none : Option Refusal → Bool
@@ -51,7 +54,7 @@ main_found image = two_rounds marks image 1 outermost
 abbrev pub handler_found : List ℕ → List FrameMarks
 handler_found image = two_rounds marks image 0 (handler_start image)
 
-abbrev pub spans_found : List ℕ → List PageSpans
+abbrev pub spans_found : List ℕ → List (Option PageSpans)
 spans_found image = two_rounds spans image 1 zero_spans
 
 abbrev pub marked_found : List ℕ → ℕ → Bool
@@ -113,19 +116,42 @@ module _ (image : List ℕ) (marked : ℕ → Bool) (other : List ℕ) (allowed 
   down_under (suc n) need h under = down_under n _ (omega arith) (ask_under need n (omega arith) under)
 
 module _ {image : List ℕ} (computed : Computed image) where
-  found_computed : Found image (main_found image) (handler_found image) (spans_found image) (needs_found image)
-  found_computed = record {
-    longs = computed.longs;
-    mains = smallest_computed marks_laws image 1 outermost computed.two computed.mains;
-    handlers = smallest_computed marks_laws image 0 (handler_start image) (omega (arith, computed.two)) computed.handlers;
-    spanned = smallest_computed spans_laws image 1 zero_spans computed.two computed.spanned;
-  }
+  recorded : Records (length image) (main_found image) (handler_found image) (spans_found image) (needs_found image) (rows_found image)
+  recorded = record_of (length image) (main_found image) (handler_found image) (spans_found image) (needs_found image)
 
-  clear_computed : NoneBefore (length image) (cause_in image (main_found image) (handler_found image))
-  clear_computed = none_before (length image) (cause_in image (main_found image) (handler_found image)) computed.clear
+  main_smallest : Smallest marks image 1 outermost (main_found image)
+  main_smallest = smallest_computed marks_laws image 1 outermost computed.two computed.mains
 
-  settled_computed : Settled image (marked_found image) (needs_found image)
-  settled_computed = record {
+  handler_smallest : Smallest marks image 0 (handler_start image) (handler_found image)
+  handler_smallest = smallest_computed marks_laws image 0 (handler_start image) (omega (arith, computed.two)) computed.handlers
+
+  spans_smallest : Smallest spans image 1 zero_spans (spans_found image)
+  spans_smallest = smallest_computed spans_laws image 1 zero_spans computed.two computed.spanned
+
+  facts_found : Facts image (interruptible image) (rows_found image) (summary spans image (spans_found image))
+  facts_found = facts_recorded recorded main_smallest spans_smallest handler_smallest
+
+  -- the lists that the rows hold
+  rows_long : length (rows_found image) ≡ length image
+  rows_long = recorded.long
+
+  mains_are : mains (rows_found image) ≡ main_found image
+  mains_are = ext_get_or unmarked _ _ (length-map (rows_found image) (λ row. row.main) ∙ rows_long ∙ sym computed.longs.0) (λ a h. main_recorded recorded a (omega (arith, length-map (rows_found image) (λ row. row.main), rows_long)))
+
+  handlers_are : handlers (rows_found image) ≡ handler_found image
+  handlers_are = ext_get_or unmarked _ _ (length-map (rows_found image) (λ row. row.handler) ∙ rows_long ∙ sym computed.longs.1) (λ a h. handler_recorded recorded a (omega (arith, length-map (rows_found image) (λ row. row.handler), rows_long)))
+
+  needs_are : needs (rows_found image) ≡ needs_found image
+  needs_are = ext_get_or 0 _ _ (length-map (rows_found image) (λ row. row.need) ∙ rows_long ∙ sym computed.longs.2) (λ a h. need_recorded recorded a (omega (arith, length-map (rows_found image) (λ row. row.need), rows_long)))
+
+  marked_are : marked_in (mains (rows_found image)) (handlers (rows_found image)) ≡ marked_found image
+  marked_are = λ j. marked_in (mains_are j) (handlers_are j)
+
+  clear_computed : NoneBefore (length image) (cause_in image (mains (rows_found image)) (handlers (rows_found image)))
+  clear_computed a h = (λ j. cause_in image (mains_are j) (handlers_are j) a) ∙ none_before (length image) (cause_in image (main_found image) (handler_found image)) computed.clear a h
+
+  settled_found : Settled image (marked_found image) (needs_found image)
+  settled_found = record {
     enough = λ a h m edge i b step. ⊎_elim
         (λ n. absurd (both_ways _ (not_from_true _ m) n))
         (λ t. leb-true _ _ t)
@@ -139,11 +165,21 @@ module _ {image : List ℕ} (computed : Computed image) where
     ];
   }
 
+  settled_computed : Settled image (marked_in (mains (rows_found image)) (handlers (rows_found image))) (needs (rows_found image))
+  settled_computed = subst (λ marked. Settled image marked (needs (rows_found image))) (sym marked_are) (subst (Settled image (marked_found image)) (sym needs_are) settled_found)
+
   module _ (owned : OwnedPages) (few : deepest image (needs_found image) ≤ 16) where
+    few_computed : deepest image (needs (rows_found image)) ≤ 16
+    few_computed = subst (λ need. deepest image need ≤ 16) (sym needs_are) few
+
+    foreign_is : (a : ℕ) → a < length image → foreign_in image owned (mains (rows_found image)) (handlers (rows_found image)) (page_spans (rows_found image)) (summary spans image (spans_found image)) a ≡ foreign_found image owned a
+    foreign_is a h = λ j. foreign_of a owned (instruction_at image a) (fact_at marks (mains_are j) a) (fact_at marks (handlers_are j) a) (spans_recorded recorded main_smallest spans_smallest a h j) (summary spans image (spans_found image))
+
     pub passes_computed : every (length image) (λ a. is_none (foreign_found image owned a)) ≡ true → Passes image owned (rows_found image) (deepest image (needs_found image))
     passes_computed t =
-        passes owned found_computed (record_of (length image) (main_found image) (handler_found image) (spans_found image) (needs_found image)) (summary spans image (spans_found image)) refl clear_computed (none_before (length image) (foreign_found image owned) t) settled_computed (deepest image (needs_found image)) refl few
+        subst (Passes image owned (rows_found image)) (ap (deepest image) needs_are)
+        (passes owned rows_long facts_found clear_computed settled_computed few_computed (λ a h. foreign_is a h ∙ none_before (length image) (foreign_found image owned) t a h))
 
     pub refused_computed : {refusal : Refusal} (at : ℕ) → at < length image → every at (λ a. is_none (foreign_found image owned a)) ≡ true → foreign_found image owned at ≡ Some refusal → Refused image owned refusal
     refused_computed at inner t here =
-        refused (caused_foreign owned found_computed (summary spans image (spans_found image)) refl clear_computed settled_computed few (record { address = at; inside = inner; before = none_before at (foreign_found image owned) t; here = here }))
+        refused (caused_foreign owned rows_long facts_found clear_computed settled_computed few_computed (record { address = at; inside = inner; before = λ a h. foreign_is a (omega arith) ∙ none_before at (foreign_found image owned) t a h; here = foreign_is at inner ∙ here }))

@@ -6,8 +6,10 @@ pub mod Deciding
 pub mod Examples
 pub mod Lifting
 pub mod Once
-pub mod Placing
+pub mod Judged
+pub mod Raising
 pub mod Recorded
 pub mod Shallow
 pub mod Straying
+pub mod Sweeping
 pub mod Verdicts

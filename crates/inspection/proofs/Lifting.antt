@@ -1,10 +1,10 @@
 -- How needs rise: they keep below every list that is enough, and what is enough when they rise no more. Assumes nothing.
-use Rattle.std.proofs.Common.{◌≡◌, ℕ, ◌-◌, ◌<◌, ◌≤◌, max, Bool, true, false, ◌||◌, leb, List, map, length, get_or, set, Some, sym, refl, ap, ◌∙◌, subst, inl, inr, arith, get_or-set_other}
+use Rattle.std.proofs.Common.{◌≡◌, ℕ, ◌<◌, ◌≤◌, max, Bool, true, false, ◌||◌, leb, List, map, length, get_or, set, Some, sym, refl, ap, ◌∙◌, subst, inl, inr, arith, get_or-set_other}
 use Rattle.std.proofs.lemmas.List.{get_or_default, length-map}
-use Rattle.std.proofs.lemmas.Bool.{cases_eq, cases_lt, both_ways, le-leb, leb-true, lt-leb, or_parts, true≢false}
+use Rattle.std.proofs.lemmas.Bool.{cases_eq, cases_lt, both_ways, le-leb, leb-true, lt-leb, true≢false}
 use Rattle.facts.specs.Laws.{Laws}
 use Rattle.facts.specs.Tables.{Below}
-use Rattle.facts.proofs.Growth.{raised, grows_none, grows_more}
+use Rattle.facts.proofs.Growth.{raised, grows_more}
 use Rattle.inspection.specs.Needing.{needing, Enough, Allowed, Asks, Lifts, Settled}
 
 pub needing_laws : Laws needing
@@ -26,9 +26,6 @@ needing_laws = record {
 }
 
 module _ (image : List ℕ) (marked : ℕ → Bool) where
-  pub lifts_none : (need : List ℕ) → Lifts image marked need need false
-  lifts_none need = record { grows = grows_none needing_laws (Allowed image marked) need; blank = λ a e. refl }
-
   pub lifts_more : {a b c : List ℕ} {p q : Bool} → Lifts image marked a b p → Lifts image marked b c q → Lifts image marked a c (p || q)
   lifts_more g h = record { grows = grows_more needing_laws g.grows h.grows; blank = λ x e. h.blank x e ∙ g.blank x e }
 
@@ -57,34 +54,9 @@ module _ (image : List ℕ) (marked : ℕ → Bool) where
           ];
         }
 
-  pub enough_asked : (need : List ℕ) (at r : ℕ) → Asks image need at r → r ≤ get_or need at 0 → Enough image marked need at
-  enough_asked need at r asks h mark edge i b step = omega (arith, asks.enough edge i b step)
-
-  pub enough_unmarked : (need : List ℕ) (at : ℕ) → marked at ≡ false → Enough image marked need at
-  enough_unmarked need at unmarked mark edge i b step = absurd (both_ways (marked at) unmarked mark)
-
-  still : {before after : List ℕ} (changed : Bool) → Lifts image marked before after changed → changed ≡ false → after ≡ before
+  pub still : {before after : List ℕ} (changed : Bool) → Lifts image marked before after changed → changed ≡ false → after ≡ before
   still true lifts e = absurd (true≢false e)
   still false lifts e = lifts.grows.fell
-
-  -- one address more, before those that are enough
-  pub swept :
-      {before after : List ℕ} {p r : Bool} (at : ℕ)
-      → 0 < at
-      → Lifts image marked before after r
-      → (p ≡ false → (a : ℕ) → at ≤ a → a < length image → Enough image marked before a)
-      → (r ≡ false → Enough image marked before (at - 1))
-      → (p || r) ≡ false
-      → (a : ℕ)
-      → at - 1 ≤ a
-      → a < length image
-      → Enough image marked after a
-  swept {before} {after} {p} {r} at some lifts behind here e a low inside =
-      let o = or_parts p r e in
-      subst (λ need. Enough image marked need a) (sym (still r lifts o.1)) (elim (cases_eq a (at - 1)) [
-        | inl same ↦ subst (Enough image marked before) (sym same) (here o.1)
-        | inr other ↦ behind o.0 a (omega arith) inside
-      ])
 
   pub settles :
       {before after : List ℕ} {p : Bool}

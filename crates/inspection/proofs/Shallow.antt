@@ -2,13 +2,12 @@
 use Rattle.std.proofs.Common.{◌≡◌, ℕ, ◌+◌, ◌<◌, ◌≤◌, Bool, true, false, cond, not, ◌&&◌, ◌||◌, leb, List, length, get_or, sym, refl, ap, ◌∙◌, inl, inr, ⊎_elim, arith}
 use Rattle.std.proofs.lemmas.Bool.{both_ways, cases_Bool, le-leb, leb-true, or_cases, or_left, or_right, false≢true}
 use Rattle.facts.specs.declared.marks.FrameMarks.{FrameMarks}
-use Rattle.facts.specs.Marks.{marks, unmarked}
+use Rattle.facts.specs.Marks.{marks, unmarked, any_frame}
 use Rattle.facts.specs.Tables.{fact_at, Smallest, known}
 use Rattle.facts.proofs.Lasting.{marks_laws}
 use Rattle.facts.proofs.Theorems.{smallest_laws}
 use Rattle.ledger.specs.Interrupts.{interruptible, outermost, handler_start}
 use Rattle.ledger.specs.Needs.{deepest}
-use Rattle.ledger.specs.Rows.{any_frame}
 use Rattle.inspection.specs.Needing.{marked_in, Allowed, Settled}
 
 pub known_marked : (m : FrameMarks) → known marks m ≡ any_frame m

@@ -1,34 +1,18 @@
 -- What the search for foreign pages finds, or does not find, at an address. Assumes nothing.
-use Rattle.std.proofs.Common.{◌≡◌, ℕ, ◌<◌, Bool, true, false, cond, not, ◌&&◌, ◌||◌, ◌⊎◌, List, length, get_or, Some, None, Option, sym, refl, ap, ◌∙◌, subst, inl, inr, ⊎_elim, arith}
-use Rattle.std.proofs.lemmas.List.{get_or_read}
-use Rattle.std.proofs.lemmas.Bool.{and_from, and_parts, cond-false, false≢true, not_from_false, not-true, or_cases, or_left, or_right}
+use Rattle.std.proofs.Common.{◌≡◌, ℕ, Bool, true, false, cond, not, ◌&&◌, ◌||◌, ◌⊎◌, List, Some, None, Option, refl, ap, ◌∙◌, inl, inr, ⊎_elim, arith}
+use Rattle.std.proofs.lemmas.Bool.{and_from, and_parts, false≢true, not_from_false, not-true, or_cases, or_left, or_right}
+use Rattle.std.proofs.lemmas.Option.{none-some}
 use Rattle.refusals.specs.declared.Refusal.{Refusal}
 use Rattle.refusals.specs.declared.Refusal.TheVariants.{PageNotOwned}
 use Rattle.words.specs.declared.instruction.Instruction.{Instruction}
-use Rattle.facts.specs.declared.marks.FrameMarks.{FrameMarks}
-use Rattle.facts.specs.declared.spans.PageSpans.{PageSpans}
-use Rattle.facts.specs.declared.spans.PageSpans.TheVariants.{Nothing}
-use Rattle.facts.specs.Marks.{marks}
-use Rattle.facts.specs.Tables.{fact_at}
+use Rattle.facts.specs.Marks.{any_frame}
 use Rattle.ledger.specs.declared.owned.OwnedPages.{OwnedPages}
 use Rattle.ledger.specs.declared.row.Row.{Row}
 use Rattle.ledger.specs.Causes.{instruction_at, ForeignPage}
 use Rattle.ledger.specs.Pages.{reaches_memory, inside_owned}
-use Rattle.ledger.specs.Rows.{any_frame, main_at, handler_at, spans_at, all_spans}
-use Rattle.inspection.specs.Looking.{reaching, strays, foreign_of, foreign_in}
+use Rattle.ledger.specs.Rows.{main_at, handler_at, spans_at, all_spans}
+use Rattle.inspection.specs.Looking.{reaching, strays, foreign_of}
 use Rattle.inspection.proofs.Choosing.{cond_some}
-
-pub foreign_none :
-    (image : List ℕ) (owned : OwnedPages) (mains handlers : List FrameMarks) (here : List PageSpans) (all x : PageSpans) (a : ℕ)
-    → a < length here
-    → x ≡ get_or here a x
-    → (r s : Bool)
-    → r ≡ reaching (instruction_at image a)
-    → s ≡ strays owned (fact_at marks mains a) (fact_at marks handlers a) x all
-    → (r && s) ≡ false
-    → foreign_in image owned mains handlers here all a ≡ None
-foreign_none image owned mains handlers here all x a inside read r s p q e =
-    subst (λ y. foreign_of a owned (instruction_at image a) (fact_at marks mains a) (fact_at marks handlers a) y all ≡ None) (get_or_read here a x inside read Nothing) (cond-false _ _ _ ((λ j. sym p j && sym q j) ∙ e))
 
 strayed : (m h : Bool) (main handler : Bool) → (((m ≡ true) × (main ≡ false)) ⊎ ((h ≡ true) × (handler ≡ false))) → ((m && not main) || (h && not handler)) ≡ true
 strayed m h main handler (inl k) = or_left _ _ (and_from _ _ k.0 (not_from_false _ k.1))
@@ -57,11 +41,8 @@ module _ {image : List ℕ} {owned : OwnedPages} {rows : List Row} {a : ℕ} whe
   pub foreign_found_lem : {refusal : Refusal} → foreign_of a owned (instruction_at image a) (main_at rows a) (handler_at rows a) (spans_at rows a) (all_spans image rows) ≡ Some refusal → ForeignPage image owned rows a × (PageNotOwned a ≡ refusal)
   foreign_found_lem e = ⊎_elim
       (λ k. (foreign_both (instruction_at image a) refl k.0, k.1))
-      (λ k. absurd (none_some k.1))
+      (λ k. absurd (none-some _ k.1))
       (cond_some _ _ _ e)
-    where
-      none_some : {x : Refusal} → None ≡ Some x → ⊥
-      none_some q = let z : ◌≡◌ {A = ℕ} 0 1 = cc in omega arith
 
   pub foreign_not : foreign_of a owned (instruction_at image a) (main_at rows a) (handler_at rows a) (spans_at rows a) (all_spans image rows) ≡ None → ForeignPage image owned rows a → ⊥
   foreign_not e c = some_none _ _ _

@@ -6,4 +6,6 @@ pub mod Loading
 pub mod Looking
 pub mod Needing
 pub mod Obstacles
+pub mod Passing
 pub mod Recording
+pub mod Sheets

@@ -7,7 +7,7 @@ use Rattle.words.specs.declared.instruction.Instruction.TheVariants.{Register, I
 use Rattle.facts.specs.declared.marks.FrameMarks.{FrameMarks}
 use Rattle.facts.specs.declared.spans.PageSpans.{PageSpans}
 use Rattle.facts.specs.declared.successors.Successors.{Successors}
-use Rattle.facts.specs.Marks.{marks}
+use Rattle.facts.specs.Marks.{marks, any_frame}
 use Rattle.facts.specs.Spans.{is, spans}
 use Rattle.facts.specs.Successors.{successors}
 use Rattle.facts.specs.Tables.{fact_at}
@@ -15,7 +15,6 @@ use Rattle.facts.specs.Written.{written}
 use Rattle.ledger.specs.declared.owned.OwnedPages.{OwnedPages}
 use Rattle.ledger.specs.Causes.{instruction_at}
 use Rattle.ledger.specs.Pages.{reaches_memory, inside_owned}
-use Rattle.ledger.specs.Rows.{any_frame}
 
 abbrev pub outside_image : ℕ → ℤ → Bool
 outside_image words (pos address) = not (nat_lt address words)
@@ -72,7 +71,7 @@ abbrev pub cause_in : List ℕ → List FrameMarks → List FrameMarks → ℕ �
 cause_in image mains handlers a = cause_of (length image) a (instruction_at image a) (fact_at marks mains a) (fact_at marks handlers a)
 
 -- by the main program with its own spans, by the handler with all of them
-abbrev pub strays : OwnedPages → FrameMarks → FrameMarks → PageSpans → PageSpans → Bool
+abbrev pub strays : OwnedPages → FrameMarks → FrameMarks → Option PageSpans → Option PageSpans → Bool
 strays owned main handler here all = (any_frame main && not (inside_owned owned here)) || (any_frame handler && not (inside_owned owned all))
 
 abbrev pub reaching : Option Instruction → Bool
@@ -80,9 +79,9 @@ reaching None = false
 reaching (Some i) = reaches_memory i
 
 -- cause 11
-abbrev pub foreign_of : ℕ → OwnedPages → Option Instruction → FrameMarks → FrameMarks → PageSpans → PageSpans → Option Refusal
+abbrev pub foreign_of : ℕ → OwnedPages → Option Instruction → FrameMarks → FrameMarks → Option PageSpans → Option PageSpans → Option Refusal
 foreign_of a owned found main handler here all = cond (reaching found && strays owned main handler here all) (Some (PageNotOwned a)) None
 
-abbrev pub foreign_in : List ℕ → OwnedPages → List FrameMarks → List FrameMarks → List PageSpans → PageSpans → ℕ → Option Refusal
+abbrev pub foreign_in : List ℕ → OwnedPages → List FrameMarks → List FrameMarks → List (Option PageSpans) → Option PageSpans → ℕ → Option Refusal
 foreign_in image owned mains handlers here all a =
     foreign_of a owned (instruction_at image a) (fact_at marks mains a) (fact_at marks handlers a) (fact_at spans here a) all

@@ -1,30 +1,46 @@
 // The causes for which an address is refused.
-ghost use Rattle.std.specs.Prelude.{◌≡◌, ◌<◌, ◌≤◌, length};
-ghost use Rattle.words.specs.Decoding.{instruction_of};
-ghost use Rattle.facts.specs.Written.{written};
-ghost use Rattle.ledger.specs.Pages.{reaches_memory, inside_owned};
-ghost use Rattle.ledger.specs.Rows.{any_frame};
+ghost use Rattle.std.specs.Prelude.{◌≡◌, ℕ, ◌<◌, Option, length};
+ghost use Rattle.refusals.specs.declared.Refusal.{Refusal};
+ghost use Rattle.ledger.specs.Pages.{inside_owned};
+ghost use Rattle.ledger.specs.Rows.{spans_of};
 ghost use Rattle.inspection.specs.First.{First};
-ghost use Rattle.inspection.specs.Looking.{escapes, leaves, mixed, either_marked, misplaced, writes_page, instruction_cause, cause_of, cause_in, strays, reaching, foreign_of, foreign_in};
+ghost use Rattle.inspection.specs.Looking.{escapes, leaves, mixed, either_marked, misplaced, writes_page, instruction_cause, strays, reaching};
+ghost use Rattle.inspection.specs.Sheets.{cause_on, foreign_on};
 
+use crate::sheet::Sheet;
 use facts::marks::FrameMarks;
 use facts::spans::PageSpans;
 use facts::successors::Successors;
 use facts::written::written;
 use ledger::owned::OwnedPages;
+use ledger::row::Row;
 use refusals::Refusal;
 use words::codes::Transfer;
 use words::decoding::instruction_of;
 use words::instruction::Instruction;
 
+// What the first address shows at which a test shows anything. A loop: with a `find_map` over
+// the closure the proof did not close.
+pub(crate) fn find_first<F: Fn(usize) -> Option<Refusal>>(
+    words: usize,
+    test: F,
+) -> Result<(), Refusal>
+    requires { (a : ℕ) → a < words → F.pre test a }
+    ensures { (cause : ℕ → Option Refusal) → ((a : ℕ) (found : Option Refusal) → a < words → F.post test a found → found ≡ cause a) → First words cause result }
+{
+    for address in 0..words {
+        if let Some(refusal) = test(address) {
+            return Err(refusal);
+        }
+    }
+    Ok(())
+}
+
 // Whether there is an address that lies outside an image of so many words.
 fn escapes(address: Option<i32>, words: usize) -> bool
     ensures { result ≡ escapes words address }
 {
-    match address {
-        Some(address) => address < 0 || address as usize >= words,
-        None => false,
-    }
+    address.is_some_and(|address| !usize::try_from(address).is_ok_and(|address| address < words))
 }
 
 // Whether control can leave an image of so many words.
@@ -43,26 +59,20 @@ fn is_mixed(marks: FrameMarks) -> bool
     marks.outer && marks.routine
 }
 
-fn is_marked(marks: FrameMarks) -> bool
-    ensures { result ≡ any_frame marks }
-{
-    marks.outer || marks.routine
-}
-
 // Whether the main program or the handler can come to an address.
-pub(crate) fn either_marked(main: FrameMarks, handler: FrameMarks) -> bool
-    ensures { result ≡ either_marked main handler }
+pub(crate) fn is_reached(row: Row) -> bool
+    ensures { result ≡ either_marked row.main row.handler }
 {
-    is_marked(main) || is_marked(handler)
+    row.main.is_marked() || row.handler.is_marked()
 }
 
 // Whether a return has no frame that it could leave.
-fn is_misplaced(instruction: Instruction, main: FrameMarks, handler: FrameMarks) -> bool
-    ensures { result ≡ misplaced instruction main handler }
+fn is_misplaced(instruction: Instruction, row: Row) -> bool
+    ensures { result ≡ misplaced instruction row.main row.handler }
 {
     match instruction {
-        Instruction::Return => main.outer || handler.outer,
-        Instruction::ReturnFromInterrupt => is_marked(main) || handler.routine,
+        Instruction::Return => row.main.outer || row.handler.outer,
+        Instruction::ReturnFromInterrupt => row.main.is_marked() || row.handler.routine,
         _ => false,
     }
 }
@@ -71,10 +81,7 @@ fn is_misplaced(instruction: Instruction, main: FrameMarks, handler: FrameMarks)
 fn writes_page(instruction: Instruction) -> bool
     ensures { result ≡ writes_page instruction }
 {
-    match written(instruction) {
-        Some(rd) => rd == 14 || rd == 15,
-        None => false,
-    }
+    matches!(written(instruction), Some(14 | 15))
 }
 
 // What is wrong with an instruction, the smallest number first.
@@ -82,142 +89,123 @@ fn cause_of_instruction(
     words: usize,
     address: usize,
     instruction: Instruction,
-    main: FrameMarks,
-    handler: FrameMarks,
+    row: Row,
 ) -> Option<Refusal>
     requires { address < 4096 }
-    ensures { result ≡ instruction_cause words address instruction main handler }
+    ensures { result ≡ instruction_cause words address instruction row.main row.handler }
 {
     if leaves(Successors::of(address as u16, instruction), words) {
         Some(Refusal::SuccessorOutside { address })
-    } else if is_mixed(main) || is_mixed(handler) {
+    } else if is_mixed(row.main) || is_mixed(row.handler) {
         Some(Refusal::FramesMixed { address })
-    } else if is_misplaced(instruction, main, handler) {
+    } else if is_misplaced(instruction, row) {
         Some(Refusal::ReturnMisplaced { address })
-    } else if is_marked(handler) && writes_page(instruction) {
+    } else if row.handler.is_marked() && writes_page(instruction) {
         Some(Refusal::PageRegisterWritten { address })
     } else {
         None
     }
 }
 
-// What is wrong at an address, if control can come there at all.
-fn cause_of(
-    words: usize,
-    address: usize,
-    word: u32,
-    main: FrameMarks,
-    handler: FrameMarks,
-) -> Option<Refusal>
-    requires { address < 4096 }
-    ensures { result ≡ cause_of words address (instruction_of word) main handler }
-{
-    if !either_marked(main, handler) {
-        return None;
-    }
-    match instruction_of(word) {
-        Some(instruction) => cause_of_instruction(words, address, instruction, main, handler),
-        None => Some(Refusal::UndefinedReached { address }),
-    }
-}
-
-// The first address with one of the causes 5 to 9.
-pub(crate) fn find_cause(
-    image: &[u32],
-    mains: &[FrameMarks],
-    handlers: &[FrameMarks],
-) -> Result<(), Refusal>
-    requires { (length image.now ≤ 4096) × (length mains.now ≡ length image.now) × (length handlers.now ≡ length image.now) }
-    ensures { First (length image.now) (cause_in image.now mains.now handlers.now) result }
-{
-    let words = image.len();
-    for address in 0..words {
-        let found = cause_of(
-            words,
-            address,
-            image[address],
-            mains[address],
-            handlers[address],
-        );
-        if let Some(refusal) = found {
-            return Err(refusal);
-        }
-    }
-    Ok(())
-}
-
 // Whether an instruction loads from or stores to the memory.
 fn reaches_memory(instruction: Option<Instruction>) -> bool
     ensures { result ≡ reaching instruction }
 {
-    match instruction {
+    matches!(
+        instruction,
         Some(
             Instruction::Direct {
                 transfer: Transfer::Store | Transfer::Load,
                 ..
-            },
-        ) => true,
-        Some(
-            Instruction::Indirect {
+            } | Instruction::Indirect {
                 transfer: Transfer::Store | Transfer::Load,
                 ..
             },
-        ) => true,
-        _ => false,
-    }
+        )
+    )
 }
 
 // Whether every page that the registers can name is owned, from the lowest to the highest.
-fn is_inside(owned: OwnedPages, spans: PageSpans) -> bool
+fn is_inside(owned: OwnedPages, spans: Option<PageSpans>) -> bool
     ensures { result ≡ inside_owned owned spans }
 {
     match spans {
-        PageSpans::Nothing => true,
-        PageSpans::Spans { r14, r15 } => {
-            let lowest = 256 * u32::from(r15.low) + u32::from(r14.low);
-            let highest = 256 * u32::from(r15.high) + u32::from(r14.high);
-            owned.first <= lowest && highest <= owned.last
+        None => true,
+        Some(PageSpans { r14, r15 }) => {
+            let lowest = u16::from_be_bytes([r15.low, r14.low]);
+            let highest = u16::from_be_bytes([r15.high, r14.high]);
+            owned.first <= u32::from(lowest) && u32::from(highest) <= owned.last
         }
     }
+}
+
+// What a row says of the page registers: nothing where the main program never comes.
+fn spans_of(row: Row) -> Option<PageSpans>
+    ensures { result ≡ spans_of row }
+{
+    row.main.is_marked().then_some(PageSpans {
+        r14: row.r14,
+        r15: row.r15,
+    })
 }
 
 // Whether an access can leave the owned pages: the main program with the spans here, the handler with all of them.
-fn can_stray(
-    owned: OwnedPages,
-    main: FrameMarks,
-    handler: FrameMarks,
-    here: PageSpans,
-    all: PageSpans,
-) -> bool
-    ensures { result ≡ strays owned main handler here all }
+fn can_stray(owned: OwnedPages, row: Row, all: Option<PageSpans>) -> bool
+    ensures { result ≡ strays owned row.main row.handler (spans_of row) all }
 {
-    (is_marked(main) && !is_inside(owned, here)) || (is_marked(handler) && !is_inside(owned, all))
+    let here = spans_of(row);
+    (row.main.is_marked() && !is_inside(owned, here))
+        || (row.handler.is_marked() && !is_inside(owned, all))
 }
 
-// The first address that can reach a page that is not owned.
-pub(crate) fn find_foreign(
-    image: &[u32],
-    owned: OwnedPages,
-    mains: &[FrameMarks],
-    handlers: &[FrameMarks],
-    spans: &[PageSpans],
-    all: PageSpans,
-) -> Result<(), Refusal>
-    requires { (length mains.now ≡ length image.now) × (length handlers.now ≡ length image.now) × (length spans.now ≡ length image.now) }
-    ensures { First (length image.now) (foreign_in image.now owned mains.now handlers.now spans.now all) result }
-{
-    for address in 0..image.len() {
-        let reaches = reaches_memory(instruction_of(image[address]));
-        let strays = can_stray(
-            owned,
-            mains[address],
-            handlers[address],
-            spans[address],
-            all,
-        );
-        if reaches & strays {
-            return Err(Refusal::PageNotOwned { address });
+impl Sheet<'_, '_> {
+    // What is wrong at an address, if control can come there at all.
+    fn cause_at(&self, address: usize) -> Option<Refusal>
+        requires { address < length self.now.words.now }
+        ensures { result ≡ cause_on self.now address }
+    {
+        let row = self.rows[address];
+        if !is_reached(row) {
+            return None;
+        }
+        match instruction_of(self.words[address]) {
+            Some(instruction) => cause_of_instruction(self.words.len(), address, instruction, row),
+            None => Some(Refusal::UndefinedReached { address }),
         }
     }
-    Ok(())
+
+    // The first address with one of the causes 5 to 9.
+    pub(crate) fn find_cause(&self) -> Result<(), Refusal>
+        ensures { First (length self.now.words.now) (cause_on self.now) result }
+    {
+        find_first(self.words.len(), |address| self.cause_at(address))
+    }
+
+    // Whether an access at an address can leave the owned pages.
+    fn foreign_at(
+        &self,
+        owned: OwnedPages,
+        all: Option<PageSpans>,
+        address: usize,
+    ) -> Option<Refusal>
+        requires { address < length self.now.words.now }
+        ensures { result ≡ foreign_on self.now owned all address }
+    {
+        let instruction = instruction_of(self.words[address]);
+        let strays = reaches_memory(instruction) && can_stray(owned, self.rows[address], all);
+        strays.then_some(Refusal::PageNotOwned { address })
+    }
+
+    // The first address that can reach a page that is not owned.
+    pub(crate) fn find_foreign(
+        &self,
+        owned: OwnedPages,
+        all: Option<PageSpans>,
+    ) -> Result<(), Refusal>
+        ensures { First (length self.now.words.now) (foreign_on self.now owned all) result }
+    {
+        find_first(self.words.len(), |address| {
+            self.foreign_at(owned, all, address)
+        })
+    }
 }

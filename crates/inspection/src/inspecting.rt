@@ -11,20 +11,9 @@ use ledger::owned::OwnedPages;
 use ledger::row::Row;
 use refusals::Refusal;
 
-fn inspect_image<'a>(
-    words: &'a [u32],
-    owned: OwnedPages,
-    rows: &mut [Row],
-) -> Result<PassedImage<'a>, Refusal>
-    ensures { Inspects words.now owned rows.old result rows.new }
-{
-    check(words, owned, rows.len())?;
-    let count = words.len();
-    let depth = certify(words, owned, &mut rows[0..count])?;
-    Ok(PassedImage::new(words, owned, depth))
-}
-
-// Passes an image with its smallest ledger in the rows, or refuses it, exactly when it has no ledger.
+// Passes an image with its smallest ledger in the lent rows, or refuses it, exactly when it has no ledger. Nothing is
+// allocated.
+#[tactic(auto, using(ledger::proofs::Performing::safety_within, ledger::proofs::Uniqueness::ledger_laws, crate::proofs::Examples::examples_hold))]
 pub fn inspect<'a>(
     words: &'a [u32],
     owned: OwnedPages,
@@ -36,5 +25,8 @@ pub fn inspect<'a>(
     ensures once { OneVerdict }
     ensures examples { WorkedExamples }
 {
-    inspect_image(words, owned, rows)
+    check(words, owned, rows.len())?;
+    let count = words.len();
+    let depth = certify(words, owned, &mut rows[0..count])?;
+    Ok(PassedImage::new(words, owned, depth))
 }

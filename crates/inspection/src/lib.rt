@@ -7,4 +7,4 @@ pub mod inspecting;
 mod judging;
 mod needs;
 pub mod passed;
-mod recording;
+mod sheet;

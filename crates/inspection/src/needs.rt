@@ -1,119 +1,83 @@
 // The least stack needs of the marked addresses of an image.
-ghost use Rattle.std.specs.Prelude.{◌≡◌, ℕ, ◌<◌, ◌≤◌, false, length, slice_index};
+ghost use Rattle.std.specs.Prelude.{◌≡◌, ℕ, ◌<◌, false, length, slice_index};
 ghost use Rattle.facts.specs.Progress.{AddressBelow};
-ghost use Rattle.inspection.specs.Needing.{need_of, called_need, marked_in, Enough, Asks, Lifts, Settled};
+ghost use Rattle.inspection.specs.Needing.{need_of, called_need, Enough, Asks};
+ghost use Rattle.inspection.specs.Sheets.{reached, needed, RaisesNeeds, SettlesNeeds};
 
-use crate::causes::either_marked;
-use facts::marks::FrameMarks;
+use crate::causes::is_reached;
+use crate::sheet::{MOST_NEED, Sheet};
 use facts::successors::Successors;
 use words::decoding::instruction_of;
 
-// Above the 16 entries of a stack there is no need to count on.
-const CAP: u8 = 17;
-
-// What is needed at an address, if there is one.
-fn need_at(needs: &[u8], to: Option<usize>) -> u8
-    requires { AddressBelow (length needs.now) to }
-    ensures { result ≡ need_of needs.now to }
-{
-    match to {
-        Some(address) => needs[address],
-        None => 0,
+impl Sheet<'_, '_> {
+    // What is needed at an address, if there is one.
+    fn need_at(&self, to: Option<usize>) -> u8
+        requires { AddressBelow (length self.now.words.now) to }
+        ensures { result ≡ need_of (needed self.now) to }
+    {
+        to.map_or(0, |address| self.rows[address].need)
     }
-}
 
-// What a call of a routine needs, if there is one: an entry and what the routine needs.
-fn call_need(needs: &[u8], to: Option<usize>) -> u8
-    requires { AddressBelow (length needs.now) to }
-    ensures { result ≡ called_need needs.now to }
-{
-    match to {
-        Some(address) => needs[address].min(CAP - 1) + 1,
-        None => 0,
+    // What a call of a routine needs, if there is one: an entry, and what the routine needs as far as the stack goes.
+    fn call_need(&self, to: Option<usize>) -> u8
+        requires { AddressBelow (length self.now.words.now) to }
+        ensures { result ≡ called_need (needed self.now) to }
+    {
+        to.map_or(0, |address| self.rows[address].need.min(MOST_NEED) + 1)
     }
-}
 
-// What the successors of the word at an address ask for.
-fn asked(image: &[u32], needs: &[u8], at: usize) -> u8
-    requires { (length image.now ≤ 4096) × (length needs.now ≡ length image.now) × (at < length image.now) }
-    ensures { Asks image.now needs.now at result }
-{
-    match instruction_of(image[at]) {
-        Some(instruction) => {
-            let to = Successors::of(at as u16, instruction).within(image.len());
-            let past = need_at(needs, to.next).max(need_at(needs, to.target));
-            let call = call_need(needs, to.routine).max(need_at(needs, to.resume));
-            past.max(call)
+    // What the successors of the word at an address ask for.
+    fn asked(&self, at: usize) -> u8
+        requires { at < length self.now.words.now }
+        ensures { Asks self.now.words.now (needed self.now) at result }
+    {
+        match instruction_of(self.words[at]) {
+            Some(instruction) => {
+                let to = Successors::of(at as u16, instruction).within(self.words.len());
+                let past = self.need_at(to.next).max(self.need_at(to.target));
+                let call = self.call_need(to.routine).max(self.need_at(to.resume));
+                past.max(call)
+            }
+            None => 0,
         }
-        None => 0,
     }
-}
 
-// Raises the need at an address to what its successors ask for, if control can come there.
-fn raise_need(
-    image: &[u32],
-    mains: &[FrameMarks],
-    handlers: &[FrameMarks],
-    needs: &mut [u8],
-    at: usize,
-) -> bool
-    requires { (length image.now ≤ 4096) × (length mains.now ≡ length image.now) × (length handlers.now ≡ length image.now) × (length needs.old ≡ length image.now) × (at < length image.now) }
-    ensures lifts { Lifts image.now (marked_in mains.now handlers.now) needs.old needs.new result }
-    ensures enough { result ≡ false → Enough image.now (marked_in mains.now handlers.now) needs.old at }
-{
-    if !either_marked(mains[at], handlers[at]) {
-        return false;
+    // Raises the need at an address to what its successors ask for, if control can come there.
+    fn raise_need(&mut self, at: usize) -> bool
+        requires { at < length self.old.words.now }
+        ensures raises { RaisesNeeds self.old self.new result }
+        ensures enough { result ≡ false → Enough self.old.words.now (reached self.old) (needed self.old) at }
+    {
+        if !is_reached(self.rows[at]) {
+            return false;
+        }
+        let need = self.asked(at);
+        if need <= self.rows[at].need {
+            return false;
+        }
+        self.rows[at].need = need;
+        true
     }
-    let need = asked(image, needs, at);
-    if need <= needs[at] {
-        return false;
-    }
-    needs[at] = need;
-    true
-}
 
-// Raises the needs once at each address, downwards, since needs come from what lies behind.
-fn sweep_down(
-    image: &[u32],
-    mains: &[FrameMarks],
-    handlers: &[FrameMarks],
-    needs: &mut [u8],
-) -> bool
-    requires { (length image.now ≤ 4096) × (length mains.now ≡ length image.now) × (length handlers.now ≡ length image.now) × (length needs.old ≡ length image.now) }
-    ensures lifts { Lifts image.now (marked_in mains.now handlers.now) needs.old needs.new result }
-    ensures enough { result ≡ false → (a : ℕ) → a < length image.now → Enough image.now (marked_in mains.now handlers.now) needs.new a }
-{
-    let mut changed = false;
-    for at in (0..image.len()).rev() {
-        changed |= raise_need(image, mains, handlers, needs, at);
+    // Raises the needs at each address, first downwards, since needs come from what lies behind, then upwards for what
+    // branches back.
+    fn sweep(&mut self) -> bool
+        ensures raises { RaisesNeeds self.old self.new result }
+        ensures enough { result ≡ false → (a : ℕ) → a < length self.old.words.now → Enough self.old.words.now (reached self.old) (needed self.old) a }
+    {
+        let mut changed = false;
+        let words = self.words.len();
+        for at in (0..words).rev().chain(0..words) {
+            changed |= self.raise_need(at);
+        }
+        changed
     }
-    changed
-}
 
-// The same upwards, for what branches back.
-fn sweep_up(image: &[u32], mains: &[FrameMarks], handlers: &[FrameMarks], needs: &mut [u8]) -> bool
-    requires { (length image.now ≤ 4096) × (length mains.now ≡ length image.now) × (length handlers.now ≡ length image.now) × (length needs.old ≡ length image.now) }
-    ensures { Lifts image.now (marked_in mains.now handlers.now) needs.old needs.new result }
-{
-    let mut changed = false;
-    for at in 0..image.len() {
-        changed |= raise_need(image, mains, handlers, needs, at);
-    }
-    changed
-}
-
-// Sweeps from no needs at all until nothing changes.
-pub(crate) fn settle_needs(
-    image: &[u32],
-    mains: &[FrameMarks],
-    handlers: &[FrameMarks],
-    needs: &mut [u8],
-)
-    requires image_len_bound { (length image.now ≤ 4096) × (length mains.now ≡ length image.now) × (length handlers.now ≡ length image.now) × (length needs.old ≡ length image.now) }
-    requires none { (a : ℕ) → slice_index needs.old a ≡ 0 }
-    ensures { Settled image.now (marked_in mains.now handlers.now) needs.new }
-{
-    while sweep_down(image, mains, handlers, needs) {
-        sweep_up(image, mains, handlers, needs);
+    // Sweeps from no needs at all until nothing changes.
+    pub(crate) fn settle_needs(&mut self)
+        requires { (a : ℕ) → slice_index (needed self.old) a ≡ 0 }
+        ensures { SettlesNeeds self.old self.new }
+    {
+        while self.sweep() {}
     }
 }

@@ -1,6 +1,6 @@
 // An image that has passed inspection.
 ghost use Rattle.std.specs.Prelude.{◌≡◌, ◌+◌, ◌*◌, ◌<◌, ◌≤◌, length};
-ghost use Rattle.inspection.specs.Inspects.{Certifies, Certified};
+ghost use Rattle.inspection.specs.Passing.{Certifies};
 ghost use Rattle.inspection.specs.Loading.{Loads, LoadLaw, Placed};
 
 use ledger::owned::OwnedPages;
@@ -13,32 +13,22 @@ pub struct PassedImage<'a> {
     owned: OwnedPages,
     // How many entries its call stack can hold at the most.
     depth: usize,
+    ghost certified: { ∥ Certifies words.now owned depth ∥₁ },
 }
 
-// Puts the three bytes of a word at its place, the high byte first.
+// Puts the three bytes of a word at its place, the high byte first. A call for each word, since of what is written
+// through `chunks_exact_mut` a proof knows the length alone.
 fn place_word(bytes: &mut [u8], address: usize, word: u32)
     requires { 3 * address + 2 < length bytes.old }
     ensures { Placed address word bytes.old bytes.new }
 {
     let place = 3 * address;
-    bytes[place] = (word / 65_536 % 256) as u8;
-    bytes[place + 1] = (word / 256 % 256) as u8;
-    bytes[place + 2] = (word % 256) as u8;
-}
-
-fn place_words(words: &[u32], bytes: &mut [u8]) -> Result<(), Refusal>
-    ensures { Loads words.now bytes.old result bytes.new }
-{
-    if bytes.len() / 3 < words.len() {
-        return Err(Refusal::LoadBytesTooShort);
-    }
-    for (address, word) in words.iter().enumerate() {
-        place_word(bytes, address, *word);
-    }
-    Ok(())
+    bytes[place..place + 3].copy_from_slice(&word.to_be_bytes()[1..]);
 }
 
 impl<'a> PassedImage<'a> {
+    ghost use Rattle.inspection.specs.Inspects.{Certified};
+
     // Inspection makes it, of an image that passes.
     pub(crate) fn new(words: &'a [u32], owned: OwnedPages, depth: usize) -> PassedImage<'a>
         requires { Certifies words.now owned depth }
@@ -76,6 +66,12 @@ impl<'a> PassedImage<'a> {
         ensures bytes { Loads self.now.words.now bytes.old result bytes.new }
         ensures law { LoadLaw }
     {
-        place_words(self.words, bytes)
+        if bytes.len() / 3 < self.words.len() {
+            return Err(Refusal::LoadBytesTooShort);
+        }
+        for (address, word) in self.words.iter().enumerate() {
+            place_word(bytes, address, *word);
+        }
+        Ok(())
     }
 }

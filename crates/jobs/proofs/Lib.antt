@@ -1,4 +1,4 @@
-pub mod Fronts
+pub mod Formats
 pub mod Laws
 pub mod Lines
 pub mod Prefix

@@ -1,5 +1,5 @@
 -- One line more of a listing. Assumes nothing.
-use Rattle.std.proofs.Common.{◌≡◌, ℕ, ◌+◌, ◌<◌, List, [], ◌∷◌, ◌++◌, length, get_or, take, Result, sym, refl, ap, ◌∙◌, subst, append_assoc, append-nil, arith}
+use Rattle.std.proofs.Common.{◌≡◌, ℕ, ◌+◌, ◌<◌, List, [], ◌∷◌, ◌++◌, length, get_or, take, Result, sym, refl, ap, ◌∙◌, subst, append_assoc, arith}
 use Rattle.std.proofs.lemmas.List.{take_more, length-take-le}
 use Rattle.refusals.specs.declared.Refusal.{Refusal}
 use Rattle.words.specs.declared.instruction.Instruction.{Instruction}
@@ -31,9 +31,6 @@ pub record Listed (before : List ℕ) (words : List ℕ) (after : List ℕ) : Ty
   pub lines : List ℕ
   pub listed : Lines 0 words lines
   pub added : after ≡ before ++ lines
-
-pub listed_none : (before : List ℕ) → Listed before [] before
-listed_none before = record { lines = []; listed = refl; added = sym (append-nil before) }
 
 pub listed_more : (before words after after' : List ℕ) (i : ℕ) (decoded : Result Instruction Refusal) → i < length words → Listed before (take i words) after → Decodes (get_or words i 0) decoded → after' ≡ after ++ (line_text i (get_or words i 0) decoded ++ (10 ∷ [])) → Listed before (take (i + 1) words) after'
 listed_more before words after after' i decoded inside old d e = record {

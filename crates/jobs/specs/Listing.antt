@@ -2,11 +2,14 @@
 use Rattle.std.specs.Prelude.{◌≡◌, ℕ, ◌+◌, ◌/◌, ◌%◌, ◌^◌, cond, List, [], ◌∷◌, ◌++◌, length, Ok, Err, codes, decimal, Result, nat_lt}
 use Rattle.refusals.specs.declared.Refusal.{Refusal}
 use Rattle.refusals.specs.Numbers.{number_of, value_of}
+use Rattle.refusals.specs.Sentences.{sentence}
 use Rattle.words.specs.declared.instruction.Instruction.{Instruction}
 use Rattle.words.specs.Codec.{Decodes}
 use Rattle.words.specs.Hex.{hex_digit, hex_two, hex_four}
 use Rattle.words.specs.Text.{text}
 use Rattle.ledger.specs.declared.owned.OwnedPages.{OwnedPages}
+use Rattle.jobs.specs.declared.job.JobError.{JobError}
+use Rattle.jobs.specs.declared.job.JobError.TheVariants.{OutOfMemory, Refused}
 use Rattle.jobs.specs.Jobs.{Reading, accepted, refused}
 
 -- five digits, or six where the word needs them
@@ -33,6 +36,11 @@ summary_text pages ticks =
 
 abbrev pub refused_text : Refusal → List ℕ
 refused_text refusal = codes "JOB " ++ (decimal (number_of refusal) ++ (codes " at " ++ decimal (value_of refusal)))
+
+-- what is said of the error for which a job was not read
+abbrev pub error_text : JobError → List ℕ
+error_text (Refused refusal) = sentence refusal
+error_text OutOfMemory = codes "out of memory"
 
 -- the listing of a job, or the one line of a refused one
 abbrev pub Lists : Reading → List ℕ → Type 0

@@ -7,7 +7,8 @@ use crate::reader::Reader;
 use crate::record::Record;
 pub use ledger::owned::OwnedPages;
 use refusals::Refusal;
-use std::alloc::{AllocFailed, Global};
+use std::alloc::{AllocError, AllocFailed, Global};
+use std::error::Error;
 
 // The most words, and the most ticks, that a job may have.
 const MOST: usize = 4096;
@@ -20,7 +21,7 @@ pub struct Job {
 }
 
 // Why a job was not read: the job's fault, or want of memory.
-#[derive(Clone, Copy, Debug)]
+#[derive(Clone, Copy, Debug, PartialEq, Eq)]
 pub enum JobError {
     Refused(Refusal),
     OutOfMemory,
@@ -33,6 +34,16 @@ impl<T: Drop> From<AllocFailed<T>> for JobError {
         JobError::OutOfMemory
     }
 }
+
+impl From<AllocError> for JobError {
+    ghost from_gives = { λ _ r. r ≡ OutOfMemory };
+
+    fn from(_e: AllocError) -> JobError {
+        Self::OutOfMemory
+    }
+}
+
+impl Error for JobError {}
 
 impl From<Refusal> for JobError {
     ghost from_gives = { λ e r. r ≡ RefusedFor e };
@@ -47,21 +58,24 @@ fn push_within<T: Drop>(list: &mut Vec<T>, item: T, place: usize) -> Result<(), 
     ensures { Pushes list.old.items item place result list.new.items }
 {
     if list.len() >= MOST {
-        return Err(JobError::Refused(Refusal::TooManyRecords { place }));
+        return Err(Refusal::TooManyRecords { place }.into());
     }
     list.push(item)?;
     Ok(())
 }
 
 impl Job {
+    // The most bytes that a job may have.
+    pub const MOST_BYTES: usize = 65_535;
+
     // The job that the bytes tell.
     #[tactic(auto, using(crate::proofs::Laws::reading_laws))]
     pub fn read(heap: Global, bytes: &[u8]) -> Result<Job, JobError>
         ensures answer { Answers bytes.now result }
         ensures laws { ReadingLaws }
     {
-        if bytes.len() > 65_535 {
-            return Err(JobError::Refused(Refusal::JobTooLong));
+        if bytes.len() > Job::MOST_BYTES {
+            return Err(Refusal::JobTooLong.into());
         }
         Job::read_records(heap, bytes)
     }

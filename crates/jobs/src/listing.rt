@@ -2,17 +2,16 @@
 ghost use Rattle.std.specs.Prelude.{◌≡◌, ℕ, List, ◌++◌, length, IfOk, Some, string_bytes, OnOk};
 ghost use Rattle.words.specs.Codec.{Decodes};
 ghost use Rattle.jobs.specs.Jobs.{Reading, accepted, Means};
-ghost use Rattle.jobs.specs.Listing.{word_digits, line_text, Lines, summary_text, refused_text, Lists};
+ghost use Rattle.jobs.specs.Listing.{word_digits, line_text, Lines, summary_text, refused_text, error_text, Lists};
 
 use crate::job::{Job, JobError};
 use ledger::owned::OwnedPages;
 use refusals::Refusal;
 use std::alloc::{AllocError, Global};
 use std::fmt;
-use words::hex::{HexFour, HexTwo, hex_digit};
 use words::instruction::Instruction;
 
-// A word in hexadecimal: five digits, or six where it needs them.
+// A word in hexadecimal: five digits, or its last six where it needs more.
 #[derive(Clone, Copy)]
 pub struct HexWord(pub u32);
 
@@ -20,19 +19,16 @@ impl fmt::Display for HexWord {
     ghost output = { λ w. Some (word_digits w.0) };
 
     fn fmt<W: fmt::Write>(&self, f: &mut fmt::Formatter<W>) -> fmt::Result {
-        let word = self.0 as usize;
-        let low = HexFour(word);
+        let word = self.0;
         if word < 0x10_0000 {
-            let high = hex_digit(word / 65_536);
-            write!(f, "{high}{low}")
+            write!(f, "{word:05X}")
         } else {
-            let high = HexTwo(word / 65_536);
-            write!(f, "{high}{low}")
+            write!(f, "{:06X}", word % 0x100_0000)
         }
     }
 }
 
-// A word at its address, with the instruction that it stands for.
+// A word at its address, of which four digits are shown, with the instruction that it stands for.
 #[derive(Clone, Copy)]
 struct Line {
     address: usize,
@@ -57,11 +53,11 @@ impl fmt::Display for Line {
     ghost output = { λ l. Some (line_text l.address l.word l.decoded) };
 
     fn fmt<W: fmt::Write>(&self, f: &mut fmt::Formatter<W>) -> fmt::Result {
-        let address = HexFour(self.address);
+        let address = self.address % 0x1_0000;
         let word = HexWord(self.word);
         match self.decoded {
-            Ok(instruction) => write!(f, "{address} {word} {instruction}"),
-            Err(refusal) => write!(f, "{address} {word} refused {}", refusal.number()),
+            Ok(instruction) => write!(f, "{address:04X} {word} {instruction}"),
+            Err(refusal) => write!(f, "{address:04X} {word} refused {}", refusal.number()),
         }
     }
 }
@@ -97,7 +93,18 @@ impl fmt::Display for RefusedJob {
     }
 }
 
-fn write_lines(text: &mut String, words: &[u32]) -> fmt::Result
+impl fmt::Display for JobError {
+    ghost output = { λ e. Some (error_text e) };
+
+    fn fmt<W: fmt::Write>(&self, f: &mut fmt::Formatter<W>) -> fmt::Result {
+        match self {
+            JobError::Refused(refusal) => write!(f, "{refusal}"),
+            JobError::OutOfMemory => write!(f, "out of memory"),
+        }
+    }
+}
+
+fn write_lines(text: &mut String, words: &[u32]) -> Result<(), AllocError>
     ensures { OnOk result ((lines : List ℕ) × Lines 0 words.now lines × (string_bytes text.new ≡ string_bytes text.old ++ lines)) }
 {
     for (address, word) in words.iter().enumerate() {
@@ -107,7 +114,7 @@ fn write_lines(text: &mut String, words: &[u32]) -> fmt::Result
     Ok(())
 }
 
-fn write_listing(text: &mut String, job: &Job) -> fmt::Result
+fn write_listing(text: &mut String, job: &Job) -> Result<(), AllocError>
     ensures { OnOk result ((lines : List ℕ) × Lists (accepted job.now.pages job.now.words.items job.now.ticks.items) lines × (string_bytes text.new ≡ string_bytes text.old ++ lines)) }
 {
     write_lines(text, job.words.as_slice())?;
@@ -115,18 +122,15 @@ fn write_listing(text: &mut String, job: &Job) -> fmt::Result
         pages: job.pages,
         ticks: job.ticks.len(),
     };
-    writeln!(text, "{summary}")?;
-    Ok(())
+    writeln!(text, "{summary}")
 }
 
 fn listing_of(heap: Global, job: &Job) -> Result<String, AllocError>
     ensures { IfOk result (λ text. Lists (accepted job.now.pages job.now.words.items job.now.ticks.items) (string_bytes text)) }
 {
     let mut text = String::new(heap);
-    match write_listing(&mut text, job) {
-        Ok(()) => Ok(text),
-        Err(_) => Err(AllocError),
-    }
+    write_listing(&mut text, job)?;
+    Ok(text)
 }
 
 // The listing of the job that the bytes tell, or the line that refuses it.
@@ -136,6 +140,7 @@ pub fn listing(heap: Global, bytes: &[u8]) -> Result<String, AllocError>
     match Job::read(heap, bytes) {
         Ok(job) => listing_of(heap, &job),
         Err(JobError::Refused(refusal)) => format!(in heap; "{}\n", RefusedJob(refusal)),
+        // By hand, since the job's error does not hold the library's.
         Err(JobError::OutOfMemory) => Err(AllocError),
     }
 }

@@ -6,7 +6,7 @@ ghost use Rattle.jobs.specs.Taking.{Ready, ReadyFor, Takes};
 use crate::record::Record;
 use refusals::Refusal;
 
-// What is left of a job's bytes, and the place in the job where that begins.
+// What is left of a job's bytes, and the place in the job where that begins: a rule of the project names this form.
 #[derive(Drop)]
 pub(crate) struct Reader<'a> {
     pub(crate) rest: &'a [u8],
@@ -17,14 +17,14 @@ pub(crate) struct Reader<'a> {
 fn two_bytes(high: u8, low: u8) -> u16
     ensures { two_bytes result ≡ high ∷ low ∷ [] }
 {
-    u16::from(high) * 256 + u16::from(low)
+    u16::from_be_bytes([high, low])
 }
 
 // The number that three bytes spell, the high byte first.
 fn three_bytes(high: u8, middle: u8, low: u8) -> u32
     ensures { (three_bytes result ≡ high ∷ middle ∷ low ∷ []) × (result < 2 ^ 24) }
 {
-    u32::from(high) * 65_536 + u32::from(middle) * 256 + u32::from(low)
+    u32::from_be_bytes([0, high, middle, low])
 }
 
 impl Reader<'_> {
@@ -41,6 +41,7 @@ impl Reader<'_> {
         }
     }
 
+    // A rule of the project names slice patterns here, and a pattern spells out its bytes: so three functions.
     fn take_pages(&mut self) -> Result<Record, Refusal>
         requires { ReadyFor 80 self.old }
         ensures { Takes self.old result self.new }

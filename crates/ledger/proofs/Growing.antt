@@ -1,14 +1,13 @@
 -- Each cause that rows have, larger rows have too; so an image that has a cause in its smallest rows has no ledger. Assumes nothing.
-use Rattle.std.proofs.Common.{◌≡◌, ℕ, ◌+◌, ◌*◌, ◌≤◌, Bool, true, false, cond, List, map, length, get_or, refl, inl, inr, ⊎_elim, arith}
+use Rattle.std.proofs.Common.{◌≡◌, ℕ, ◌+◌, ◌*◌, ◌≤◌, Bool, true, false, cond, List, map, length, get_or, Option, Some, None, refl, inl, inr, ⊎_elim, arith}
 use Rattle.std.proofs.lemmas.List.{get_or_past, length-map}
 use Rattle.std.proofs.lemmas.Bool.{and_from, and_parts, both_ways, cases_Bool, cases_lt, false≢true, le-leb, leb-true}
 use Rattle.facts.specs.declared.marks.FrameMarks.{FrameMarks}
 use Rattle.facts.specs.declared.spans.PageSpans.{PageSpans}
-use Rattle.facts.specs.declared.spans.PageSpans.TheVariants.{Nothing, Spans}
 use Rattle.facts.specs.Kinds.{Covers}
 use Rattle.facts.specs.Marks.{marks, unmarked}
 use Rattle.facts.specs.Spans.{spans}
-use Rattle.facts.proofs.Lasting.{marks_laws}
+use Rattle.facts.specs.MarksLaws.{marks_laws}
 use Rattle.facts.specs.SpansLaws.{spans_laws}
 use Rattle.facts.proofs.Summaries.{summary_mono}
 use Rattle.refusals.specs.declared.Refusal.{Refusal}
@@ -36,23 +35,23 @@ mixed_grows : (x y : FrameMarks) → Covers marks x y → Mixed y → Mixed x
 mixed_grows x y p h = (outer_grows x y p h.0, routine_grows x y p h.1)
 
 -- what lies inside the owned pages, lies there with less
-inside_covered : (owned : OwnedPages) (x y : PageSpans) → Covers spans x y → inside_owned owned x ≡ true → inside_owned owned y ≡ true
-inside_covered owned x Nothing c h = refl
-inside_covered owned Nothing (Spans r14 r15) c h = absurd (false≢true c)
-inside_covered owned (Spans a b) (Spans r14 r15) c h =
+inside_covered : (owned : OwnedPages) (x y : Option PageSpans) → Covers spans x y → inside_owned owned x ≡ true → inside_owned owned y ≡ true
+inside_covered owned x None c h = refl
+inside_covered owned None (Some y) c h = absurd (false≢true c)
+inside_covered owned (Some x) (Some y) c h =
     let both = and_parts _ _ c in
     let low = and_parts _ _ both.0 in
     let high = and_parts _ _ both.1 in
     let ends = and_parts _ _ h in
-    let a₀ = leb-true a.low r14.low low.0 in
-    let a₁ = leb-true r14.high a.high low.1 in
-    let b₀ = leb-true b.low r15.low high.0 in
-    let b₁ = leb-true r15.high b.high high.1 in
+    let a₀ = leb-true x.r14.low y.r14.low low.0 in
+    let a₁ = leb-true y.r14.high x.r14.high low.1 in
+    let b₀ = leb-true x.r15.low y.r15.low high.0 in
+    let b₁ = leb-true y.r15.high x.r15.high high.1 in
     and_from _ _
-    (le-leb owned.first (256 * r15.low + r14.low) (omega (arith, leb-true owned.first (256 * b.low + a.low) ends.0)))
-    (le-leb (256 * r15.high + r14.high) owned.last (omega (arith, leb-true (256 * b.high + a.high) owned.last ends.1)))
+    (le-leb owned.first (256 * y.r15.low + y.r14.low) (omega (arith, leb-true owned.first (256 * x.r15.low + x.r14.low) ends.0)))
+    (le-leb (256 * y.r15.high + y.r14.high) owned.last (omega (arith, leb-true (256 * x.r15.high + x.r14.high) owned.last ends.1)))
 
-outside_grows : (owned : OwnedPages) (x y : PageSpans) → Covers spans x y → inside_owned owned y ≡ false → inside_owned owned x ≡ false
+outside_grows : (owned : OwnedPages) (x y : Option PageSpans) → Covers spans x y → inside_owned owned y ≡ false → inside_owned owned x ≡ false
 outside_grows owned x y c out = elim (cases_Bool (inside_owned owned x)) [
   | inl t ↦ absurd (both_ways _ out (inside_covered owned x y c t))
   | inr f ↦ f
@@ -77,7 +76,7 @@ module _ {image : List ℕ} {rows other : List Row} (larger : Larger image rows 
   spans_cover : (a : ℕ) → Covers spans (spans_at other a) (spans_at rows a)
   spans_cover a = elim (cases_lt a (length image)) [
     | inl h ↦ larger.spans a h
-    | inr h ↦ rw (get_or_past (page_spans rows) a Nothing (past_rows spans_of a h)) (spans_laws.order.lowest (spans_at other a))
+    | inr h ↦ rw (get_or_past (page_spans rows) a None (past_rows spans_of a h)) (spans_laws.order.lowest (spans_at other a))
   ]
 
   main_marked_grows : (a : ℕ) → MainMarked rows a → MainMarked other a

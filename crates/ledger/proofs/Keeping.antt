@@ -13,7 +13,6 @@ use Rattle.machine.specs.Calls.{Poke, last_poked}
 use Rattle.machine.specs.Cores.{Core, register, at}
 use Rattle.facts.specs.declared.interval.Interval.{Interval}
 use Rattle.facts.specs.declared.spans.PageSpans.{PageSpans}
-use Rattle.facts.specs.declared.spans.PageSpans.TheVariants.{Nothing, Spans}
 use Rattle.facts.specs.Spans.{point, is, moved, move_both}
 use Rattle.facts.specs.Successors.{Edge, past, Leads, Step, successors}
 use Rattle.facts.specs.Written.{written}
@@ -41,9 +40,9 @@ abbrev pub Good : List ℕ → OwnedPages → List Row → Meaning → List Poke
 Good image owned rows memory₀ pokes core memory = Steady image rows core × Kept owned memory₀ pokes memory
 
 -- both page registers move as the spans do
-lies_moved : (i : Instruction) (x : PageSpans) (r14 r15 r14' r15' : ℕ) → ((y : Interval) → In y r14 → In (moved 14 i y) r14') → ((y : Interval) → In y r15 → In (moved 15 i y) r15') → Lies x r14 r15 → Lies (move_both i x) r14' r15'
-lies_moved i Nothing r14 r15 r14' r15' low high h = h
-lies_moved i (Spans a b) r14 r15 r14' r15' low high h = (low a h.0, high b h.1)
+lies_moved : (i : Instruction) (x : Option PageSpans) (r14 r15 r14' r15' : ℕ) → ((y : Interval) → In y r14 → In (moved 14 i y) r14') → ((y : Interval) → In y r15 → In (moved 15 i y) r15') → Lies x r14 r15 → Lies (move_both i x) r14' r15'
+lies_moved i None r14 r15 r14' r15' low high h = h
+lies_moved i (Some x) r14 r15 r14' r15' low high h = (low x.r14 h.0, high x.r15 h.1)
 
 is_not : (number : ℕ) (to : Option ℕ) → (to ≡ Some number → ⊥) → is number to ≡ false
 is_not number None h = refl
@@ -57,12 +56,12 @@ unwritten_same i number old new h moves =
     omega arith
 
 -- the page that the registers name is owned
-owned_page : (owned : OwnedPages) (x : PageSpans) (r14 r15 : ℕ) → inside_owned owned x ≡ true → Lies x r14 r15 → (owned.first ≤ 256 * r15 + r14) × (256 * r15 + r14 ≤ owned.last)
-owned_page owned Nothing r14 r15 e h = absurd h
-owned_page owned (Spans a b) r14 r15 e h =
-    let both = and_parts (leb owned.first (256 * b.low + a.low)) (leb (256 * b.high + a.high) owned.last) e in
-    let low : owned.first ≤ 256 * b.low + a.low = leb-true _ _ both.0 in
-    let high : 256 * b.high + a.high ≤ owned.last = leb-true _ _ both.1 in
+owned_page : (owned : OwnedPages) (x : Option PageSpans) (r14 r15 : ℕ) → inside_owned owned x ≡ true → Lies x r14 r15 → (owned.first ≤ 256 * r15 + r14) × (256 * r15 + r14 ≤ owned.last)
+owned_page owned None r14 r15 e h = absurd h
+owned_page owned (Some x) r14 r15 e h =
+    let both = and_parts (leb owned.first (256 * x.r15.low + x.r14.low)) (leb (256 * x.r15.high + x.r14.high) owned.last) e in
+    let low : owned.first ≤ 256 * x.r15.low + x.r14.low = leb-true _ _ both.0 in
+    let high : 256 * x.r15.high + x.r14.high ≤ owned.last = leb-true _ _ both.1 in
     (omega arith, omega arith)
 
 module _ {image : List ℕ} {owned : OwnedPages} {rows : List Row} (ledger : Ledger image owned rows) where

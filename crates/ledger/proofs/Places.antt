@@ -5,7 +5,7 @@
 --   MainFrames      the main program's stack: outer at the bottom, above it routines, each to return to a main place
 --   HandlerFrames   the handler's stack: routines above its outer frame, and that above an interrupted main place
 --   Place           one or the other, as an interrupt is in service or not
-use Rattle.std.proofs.Common.{◌≡◌, ℕ, suc, ◌+◌, ◌<◌, ◌≤◌, Bool, true, false, cond, ◌⊎◌, List, [], ◌∷◌, length, Some, sym, refl, ap, subst, inl, inr, ⊎_elim, arith}
+use Rattle.std.proofs.Common.{◌≡◌, ℕ, suc, ◌+◌, ◌<◌, ◌≤◌, Bool, true, false, cond, ◌⊎◌, List, [], ◌∷◌, length, Option, Some, None, sym, refl, ap, subst, inl, inr, ⊎_elim, arith}
 use Rattle.std.proofs.lemmas.Bool.{and_parts, false≢true, or_left, or_right}
 use Rattle.std.proofs.lemmas.Bool.Decides.{nat_tests}
 use Rattle.words.specs.declared.instruction.Instruction.{Instruction}
@@ -14,7 +14,6 @@ use Rattle.machine.specs.declared.stack.Entry.{Entry}
 use Rattle.facts.specs.declared.interval.Interval.{Interval}
 use Rattle.facts.specs.declared.marks.FrameMarks.{FrameMarks}
 use Rattle.facts.specs.declared.spans.PageSpans.{PageSpans}
-use Rattle.facts.specs.declared.spans.PageSpans.TheVariants.{Nothing, Spans}
 use Rattle.facts.specs.Kinds.{Covers}
 use Rattle.facts.specs.Marks.{marks}
 use Rattle.facts.specs.Spans.{contains, covered, spans}
@@ -32,19 +31,19 @@ use Rattle.ledger.specs.Rows.{any_frame, main_at, handler_at, spans_at, need_at,
 abbrev pub In : Interval → ℕ → Type 0
 In x value = (x.low ≤ value) × (value ≤ x.high)
 
-abbrev pub Lies : PageSpans → ℕ → ℕ → Type 0
-Lies Nothing r14 r15 = ⊥
-Lies (Spans a b) r14 r15 = In a r14 × In b r15
+abbrev pub Lies : Option PageSpans → ℕ → ℕ → Type 0
+Lies None r14 r15 = ⊥
+Lies (Some x) r14 r15 = In x.r14 r14 × In x.r15 r15
 
 in_contained : (x y : Interval) (value : ℕ) → contains x y ≡ true → In y value → In x value
 in_contained x y value p h = let low = h.0 in let high = h.1 in (grind (arith, nat_tests), grind (arith, nat_tests))
 
-pub lies_covered : (x y : PageSpans) (r14 r15 : ℕ) → covered x y ≡ true → Lies y r14 r15 → Lies x r14 r15
-lies_covered Nothing Nothing r14 r15 p h = h
-lies_covered Nothing (Spans c d) r14 r15 p h = absurd (false≢true p)
-lies_covered (Spans a b) Nothing r14 r15 p h = absurd h
-lies_covered (Spans a b) (Spans c d) r14 r15 p h =
-    let both = and_parts _ _ p in (in_contained a c r14 both.0 h.0, in_contained b d r15 both.1 h.1)
+pub lies_covered : (x y : Option PageSpans) (r14 r15 : ℕ) → covered x y ≡ true → Lies y r14 r15 → Lies x r14 r15
+lies_covered None None r14 r15 p h = h
+lies_covered None (Some y) r14 r15 p h = absurd (false≢true p)
+lies_covered (Some x) None r14 r15 p h = absurd h
+lies_covered (Some x) (Some y) r14 r15 p h =
+    let both = and_parts _ _ p in (in_contained x.r14 y.r14 r14 both.0 h.0, in_contained x.r15 y.r15 r15 both.1 h.1)
 
 pub covers_outer : (x y : FrameMarks) → Covers marks x y → y.outer ≡ true → x.outer ≡ true
 covers_outer x y p h = grind arith
@@ -142,9 +141,9 @@ module _ {image : List ℕ} {owned : OwnedPages} {rows : List Row} (ledger : Led
       (λ k. handler_lies r14 r15 entry.address rest k.1)
       h.2
 
-  resumed_covers : (x s y : PageSpans) (r14 r15 : ℕ) → Covers spans x (spans.resume s y) → Lies y r14 r15 → Covers spans x s
-  resumed_covers x s Nothing r14 r15 c h = absurd h
-  resumed_covers x s (Spans a b) r14 r15 c h = c
+  resumed_covers : (x s y : Option PageSpans) (r14 r15 : ℕ) → Covers spans x (spans.resume s y) → Lies y r14 r15 → Covers spans x s
+  resumed_covers x s None r14 r15 c h = absurd h
+  resumed_covers x s (Some y) r14 r15 c h = c
 
   -- into a routine, to come back to the address after the call
   module _ (i : Instruction) (a b next : ℕ) (stack : List Entry) (r14 r15 : ℕ) (call : Step image enter a i b) (back : Step image resume a i next) (entry : Entry) (to : entry.address ≡ next) where

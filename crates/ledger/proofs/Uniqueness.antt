@@ -1,11 +1,9 @@
 -- The smallest ledger is one, and stays the smallest where more pages are owned. Assumes nothing.
-use Rattle.std.proofs.Common.{◌≡◌, ℕ, ◌+◌, ◌*◌, ◌<◌, ◌≤◌, true, false, List, length, get_or, sym, refl, ap, ◌∙◌, subst, inl, inr, ⊎_elim, arith}
+use Rattle.std.proofs.Common.{◌≡◌, ℕ, ◌+◌, ◌*◌, ◌<◌, ◌≤◌, true, false, List, length, get_or, Option, Some, None, sym, refl, ap, ◌∙◌, subst, inl, inr, ⊎_elim, arith}
 use Rattle.std.proofs.lemmas.List.{ext_get_or}
 use Rattle.std.proofs.lemmas.Bool.{and_from, and_parts, both_ways, cases_Bool, cond-true, le-leb, leb-true}
-use Rattle.facts.specs.declared.interval.Interval.{Interval}
 use Rattle.facts.specs.declared.spans.PageSpans.{PageSpans}
-use Rattle.facts.specs.declared.spans.PageSpans.TheVariants.{Nothing, Spans}
-use Rattle.facts.proofs.Lasting.{marks_laws}
+use Rattle.facts.specs.MarksLaws.{marks_laws}
 use Rattle.facts.specs.SpansLaws.{spans_laws}
 use Rattle.facts.proofs.Theorems.{smallest_laws}
 use Rattle.ledger.specs.declared.owned.OwnedPages.{OwnedPages}
@@ -20,8 +18,8 @@ use Rattle.ledger.specs.Verdicts.{SmallestLedger}
 use Rattle.ledger.proofs.Growing.{causes_grow, marked_grows, surveyed_larger}
 use Rattle.ledger.proofs.RowFacts.{main_at_lem, handler_at_lem, spans_at_lem, need_at_lem}
 
-same_spans : (a b c d : Interval) → Spans a b ≡ Spans c d → (a ≡ c) × (b ≡ d)
-same_spans a b c d e = (cc, cc)
+same_spans : (x y : PageSpans) → Some x ≡ Some y → (x.r14 ≡ y.r14) × (x.r15 ≡ y.r15)
+same_spans x y e = (cc, cc)
 
 same_row : (x y : Row) → x.main ≡ y.main → x.handler ≡ y.handler → x.r14 ≡ y.r14 → x.r15 ≡ y.r15 → x.need ≡ y.need → x ≡ y
 same_row x y m h low high n = λ i. record { main = m i; handler = h i; r14 = low i; r15 = high i; need = n i }
@@ -50,7 +48,7 @@ module _ {image : List ℕ} {owned : OwnedPages} {rows other : List Row} (one : 
     same_registers : ((get_or rows a blank_row).r14 ≡ (get_or other a blank_row).r14) × ((get_or rows a blank_row).r15 ≡ (get_or other a blank_row).r15)
     same_registers = elim (cases_Bool (any_frame (get_or rows a blank_row).main)) [
       | inl t ↦
-          same_spans _ _ _ _ (sym (cond-true _ _ _ t) ∙ same_reach ∙ cond-true _ _ _ (ap any_frame (sym same_main) ∙ t))
+          same_spans _ _ (sym (cond-true _ _ _ t) ∙ same_reach ∙ cond-true _ _ _ (ap any_frame (sym same_main) ∙ t))
       | inr f ↦
           let here = one.spanless a (λ m. both_ways _ f (ap any_frame (sym (main_at_lem rows a)) ∙ m)) in
           let there = two.spanless a (λ m. both_ways _ f (ap any_frame (same_main ∙ sym (main_at_lem other a)) ∙ m)) in
@@ -63,16 +61,16 @@ module _ {image : List ℕ} {owned : OwnedPages} {rows other : List Row} (one : 
   unique : rows ≡ other
   unique = ext_get_or blank_row rows other (one.surveyed.long ∙ sym two.surveyed.long) (λ a h. same_rows a (subst (λ n. a < n) one.surveyed.long h))
 
-inside_wider : (owned wide : OwnedPages) (s : PageSpans) → wide.first ≤ owned.first → owned.last ≤ wide.last → inside_owned owned s ≡ true → inside_owned wide s ≡ true
-inside_wider owned wide Nothing low high h = refl
-inside_wider owned wide (Spans r14 r15) low high h =
+inside_wider : (owned wide : OwnedPages) (s : Option PageSpans) → wide.first ≤ owned.first → owned.last ≤ wide.last → inside_owned owned s ≡ true → inside_owned wide s ≡ true
+inside_wider owned wide None low high h = refl
+inside_wider owned wide (Some s) low high h =
     let ends = and_parts _ _ h in
     and_from _ _
-    (le-leb wide.first (256 * r15.low + r14.low) (omega (arith, leb-true owned.first (256 * r15.low + r14.low) ends.0)))
-    (le-leb (256 * r15.high + r14.high) wide.last (omega (arith, leb-true (256 * r15.high + r14.high) owned.last ends.1)))
+    (le-leb wide.first (256 * s.r15.low + s.r14.low) (omega (arith, leb-true owned.first (256 * s.r15.low + s.r14.low) ends.0)))
+    (le-leb (256 * s.r15.high + s.r14.high) wide.last (omega (arith, leb-true (256 * s.r15.high + s.r14.high) owned.last ends.1)))
 
 module _ (image : List ℕ) (owned wide : OwnedPages) (rows : List Row) (low : wide.first ≤ owned.first) (high : owned.last ≤ wide.last) where
-  outside_narrower : (s : PageSpans) → inside_owned wide s ≡ false → inside_owned owned s ≡ false
+  outside_narrower : (s : Option PageSpans) → inside_owned wide s ≡ false → inside_owned owned s ≡ false
   outside_narrower s out = elim (cases_Bool (inside_owned owned s)) [
     | inl t ↦ absurd (both_ways _ out (inside_wider owned wide s low high t))
     | inr f ↦ f

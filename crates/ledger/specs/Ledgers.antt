@@ -1,9 +1,8 @@
 -- When a list of rows is a ledger of an image with its owned pages. Assumes nothing.
-use Rattle.std.specs.Prelude.{◌≡◌, ℕ, ◌≤◌, List, length}
+use Rattle.std.specs.Prelude.{◌≡◌, ℕ, ◌≤◌, List, length, Option, Some}
 use Rattle.facts.specs.declared.spans.PageSpans.{PageSpans}
-use Rattle.facts.specs.declared.spans.PageSpans.TheVariants.{Spans}
 use Rattle.facts.specs.Marks.{marks}
-use Rattle.facts.specs.Spans.{point, spans}
+use Rattle.facts.specs.Spans.{spans, zero_both}
 use Rattle.facts.specs.Tables.{Closed}
 use Rattle.ledger.specs.declared.owned.OwnedPages.{OwnedPages}
 use Rattle.ledger.specs.declared.row.Row.{Row}
@@ -13,8 +12,8 @@ use Rattle.ledger.specs.Needs.{Needs, depth}
 use Rattle.ledger.specs.Rows.{mains, handlers, page_spans}
 
 -- both page registers are 0
-abbrev pub zero_spans : PageSpans
-zero_spans = Spans (point 0) (point 0)
+abbrev pub zero_spans : Option PageSpans
+zero_spans = Some zero_both
 
 -- any rows that are closed and show no cause, the smallest or not
 pub record Ledger (image : List ℕ) (owned : OwnedPages) (rows : List Row) : Type 0 where

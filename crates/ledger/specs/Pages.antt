@@ -1,11 +1,10 @@
 -- Which instructions reach the memory, and which page spans lie inside the owned pages. Assumes nothing.
-use Rattle.std.specs.Prelude.{◌+◌, ◌*◌, Bool, true, false, ◌&&◌, nat_le}
+use Rattle.std.specs.Prelude.{◌+◌, ◌*◌, Bool, true, false, ◌&&◌, Option, Some, None, nat_le}
 use Rattle.words.specs.declared.codes.Transfer.{Transfer}
 use Rattle.words.specs.declared.codes.Transfer.TheVariants.{Export, Import, Store, Load}
 use Rattle.words.specs.declared.instruction.Instruction.{Instruction}
 use Rattle.words.specs.declared.instruction.Instruction.TheVariants.{Register, Immediate, Rotate, Flag, Direct, Indirect, BranchIf, CallIf, Call, Return, ReturnFromInterrupt, Branch}
 use Rattle.facts.specs.declared.spans.PageSpans.{PageSpans}
-use Rattle.facts.specs.declared.spans.PageSpans.TheVariants.{Nothing, Spans}
 use Rattle.ledger.specs.declared.owned.OwnedPages.{OwnedPages}
 
 -- from or to a cell, not a port
@@ -30,7 +29,7 @@ reaches_memory ReturnFromInterrupt = false
 reaches_memory (Branch offset) = false
 
 -- every page that the registers can name, from the lowest to the highest, is owned
-abbrev pub inside_owned : OwnedPages → PageSpans → Bool
-inside_owned owned Nothing = true
-inside_owned owned (Spans r14 r15) =
-    nat_le owned.first (256 * r15.low + r14.low) && nat_le (256 * r15.high + r14.high) owned.last
+abbrev pub inside_owned : OwnedPages → Option PageSpans → Bool
+inside_owned owned None = true
+inside_owned owned (Some spans) =
+    nat_le owned.first (256 * spans.r15.low + spans.r14.low) && nat_le (256 * spans.r15.high + spans.r14.high) owned.last

@@ -7,11 +7,11 @@
 --   MainMarked      the main program can come to the address
 --   HandlerMarked   the handler can come to it
 --   Marked          either can
-use Rattle.std.specs.Prelude.{◌≡◌, ℕ, Bool, true, cond, ◌||◌, ◌⊎◌, List, map, slice_index}
+use Rattle.std.specs.Prelude.{◌≡◌, ℕ, true, cond, ◌⊎◌, List, map, Option, Some, None, slice_index}
 use Rattle.facts.specs.declared.marks.FrameMarks.{FrameMarks}
 use Rattle.facts.specs.declared.spans.PageSpans.{PageSpans}
-use Rattle.facts.specs.declared.spans.PageSpans.TheVariants.{Nothing, Spans}
 use Rattle.facts.specs.Marks.{marks, unmarked}
+pub use Rattle.facts.specs.Marks.{any_frame}
 use Rattle.facts.specs.Spans.{point, spans}
 use Rattle.facts.specs.Tables.{fact_at, summary}
 use Rattle.ledger.specs.declared.row.Row.{Row}
@@ -26,14 +26,11 @@ mains rows = map (λ row. row.main) rows
 abbrev pub handlers : List Row → List FrameMarks
 handlers rows = map (λ row. row.handler) rows
 
-abbrev pub any_frame : FrameMarks → Bool
-any_frame marks = marks.outer || marks.routine
-
 -- without a main mark the intervals of a row say nothing
-abbrev pub spans_of : Row → PageSpans
-spans_of row = cond (any_frame row.main) (Spans row.r14 row.r15) Nothing
+abbrev pub spans_of : Row → Option PageSpans
+spans_of row = cond (any_frame row.main) (Some (record { r14 = row.r14; r15 = row.r15 })) None
 
-abbrev pub page_spans : List Row → List PageSpans
+abbrev pub page_spans : List Row → List (Option PageSpans)
 page_spans rows = map spans_of rows
 
 abbrev pub needs : List Row → List ℕ
@@ -45,14 +42,14 @@ main_at rows a = fact_at marks (mains rows) a
 abbrev pub handler_at : List Row → ℕ → FrameMarks
 handler_at rows a = fact_at marks (handlers rows) a
 
-abbrev pub spans_at : List Row → ℕ → PageSpans
+abbrev pub spans_at : List Row → ℕ → Option PageSpans
 spans_at rows a = fact_at spans (page_spans rows) a
 
 abbrev pub need_at : List Row → ℕ → ℕ
 need_at rows a = slice_index (needs rows) a
 
 -- all spans gathered: where the page registers lie whenever an interrupt comes
-abbrev pub all_spans : List ℕ → List Row → PageSpans
+abbrev pub all_spans : List ℕ → List Row → Option PageSpans
 all_spans image rows = summary spans image (page_spans rows)
 
 abbrev pub MainMarked : List Row → ℕ → Type 0

@@ -5,7 +5,7 @@ ghost use Rattle.ledger.specs.Rows.{blank_row};
 use facts::interval::Interval;
 use facts::marks::FrameMarks;
 
-#[derive(Clone, Copy)]
+#[derive(Clone, Copy, Debug, PartialEq, Eq)]
 pub struct Row {
     // The frames in which the main program can come here.
     pub main: FrameMarks,
@@ -23,13 +23,9 @@ impl Row {
     pub fn blank() -> Row
         ensures { result ≡ blank_row }
     {
-        let unmarked = FrameMarks {
-            outer: false,
-            routine: false,
-        };
         Row {
-            main: unmarked,
-            handler: unmarked,
+            main: FrameMarks::UNMARKED,
+            handler: FrameMarks::UNMARKED,
             r14: Interval::point(0),
             r15: Interval::point(0),
             need: 0,

@@ -1,5 +1,5 @@
 -- A step changes at most one cell and at most one register. Assumes nothing.
-use Rattle.std.proofs.Common.{◌≡◌, ℕ, Bool, true, false, cond, ltb, List, length, get_or, ℤ, Some, None, Ok, Err, Option, Result, refl, inl, inr, arith}
+use Rattle.std.proofs.Common.{◌≡◌, ℕ, Bool, true, false, cond, ltb, List, length, get_or, ℤ, Some, None, Ok, Err, Option, Result, refl, inl, inr}
 use Rattle.refusals.specs.declared.Refusal.{Refusal}
 use Rattle.words.specs.declared.codes.FlagChange.{FlagChange}
 use Rattle.words.specs.declared.codes.FlagChange.TheVariants.{Clrc, Setc, Clrz, Setz, Clri, Seti}
@@ -40,10 +40,6 @@ module _ (P : Core → Type 0) where
   pub moved_choice : (b : Bool) (x y : Moved) → (b ≡ true → EveryMoved P x) → (b ≡ false → EveryMoved P y) → EveryMoved P (cond b x y)
   moved_choice true x y h k = h refl
   moved_choice false x y h k = k refl
-
-  pub moved_ok : (moved : Moved) (core : Core) → EveryMoved P moved → moved ≡ Ok core → P core
-  moved_ok (Ok core') core h e = let same : core' ≡ core = cc in rw same at h
-  moved_ok (Err refusal) core h e = let z : ◌≡◌ {A = ℕ} 0 1 = cc in absurd (omega arith)
 
 operated_one : (operation : Operation) (rd second : ℕ) (core : Core) → OneRegister core (operated operation rd second core)
 operated_one Sub rd second core = inr (rd, _, refl)

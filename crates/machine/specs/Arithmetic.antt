@@ -6,12 +6,12 @@ use Rattle.words.specs.declared.codes.Operation.{Operation}
 use Rattle.words.specs.declared.codes.Operation.TheVariants.{Sub, Subc, Add, Addc, Mov, And, Or, Xor, Cmp, Test}
 use Rattle.words.specs.declared.codes.Rotation.{Rotation}
 use Rattle.words.specs.declared.codes.Rotation.TheVariants.{Ror, Rol, Rorc, Rolc}
+use Rattle.machine.specs.declared.board.operations.Outcome.{Outcome}
 use Rattle.machine.specs.Cores.{Core, register, with_register, with_flags, with_interrupts}
 
 -- a result and the carry that goes with it
-pub record Computed : Type 0 where
-  pub value : ℕ
-  pub carry : Bool
+abbrev pub Computed : Type 0
+Computed = Outcome
 
 abbrev pub bit : Bool → ℕ
 bit flag = cond flag 1 0

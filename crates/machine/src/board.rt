@@ -1,5 +1,5 @@
 // The board without its memory: registers, flags, the program counter and the call stack.
-ghost use Rattle.std.specs.Prelude.{◌≡◌, length};
+ghost use Rattle.std.specs.Prelude.{◌≡◌, ◌<◌, length};
 
 use crate::stack::Stack;
 
@@ -22,10 +22,11 @@ pub struct Board {
     pc: usize,
     stack: Stack,
     ghost all: { length registers ≡ 32 },
+    ghost inside: { pc < 4096 },
 }
 
 // What a board shows to whoever tries a program on it.
-#[derive(Clone, Copy)]
+#[derive(Clone, Copy, Debug, PartialEq, Eq)]
 pub struct BoardView {
     pub registers: [u8; 32],
     pub carry: bool,

@@ -1,4 +1,4 @@
-// The machine: the board with its call stack, a step, a run, and lists of calls.
+// The machine: the board with its call stack, a step, and a run.
 #![tactic(auto)]
 
 pub mod board;

@@ -3,6 +3,9 @@ ghost use Rattle.std.specs.Prelude.{◌≡◌, ◌≤◌, length};
 
 mod methods;
 
+// How many entries a stack has.
+pub const MOST_ENTRIES: usize = 16;
+
 // Where to go on, with the flags of then.
 #[derive(Clone, Copy, Debug, PartialEq, Eq)]
 pub struct Entry {
@@ -11,9 +14,10 @@ pub struct Entry {
     pub zero: bool,
 }
 
+// An array of sixteen beside a depth: a rule of the project names this form.
 #[derive(Clone, Copy)]
 pub struct Stack {
-    entries: [Entry; 16],
+    entries: [Entry; MOST_ENTRIES],
     depth: usize,
     ghost few: { depth ≤ 16 },
     ghost sixteen: { length entries ≡ 16 },

@@ -26,16 +26,7 @@ peeks_once memory page offset (Ok a) (Err f) p q = absurd (omega arith)
 peeks_once memory page offset (Err e) (Ok b) p q = absurd (omega arith)
 peeks_once memory page offset (Err e) (Err f) p q = cc
 
--- what a poke leaves, refused or not
 module _ (before : Meaning) (page offset byte : ℕ) where
-  pub pokes_pages : (r : Result (Unit {0}) Refusal) (after : Meaning) → Pokes before page offset byte r after → after.pages ≡ before.pages
-  pokes_pages (Ok done) after h = ap (λ m. m.pages) h.1
-  pokes_pages (Err refusal) after h = ap (λ m. m.pages) h.2
-
-  pub pokes_elsewhere : (r : Result (Unit {0}) Refusal) (after : Meaning) → Pokes before page offset byte r after → (p o : ℕ) → (p ≡ page → o ≡ offset → ⊥) → after.byte p o ≡ before.byte p o
-  pokes_elsewhere (Ok done) after h p o apart = ap (λ m. m.byte p o) h.1 ∙ poked_elsewhere before page offset byte p o apart
-  pokes_elsewhere (Err refusal) after h p o apart = ap (λ m. m.byte p o) h.2
-
   pub pokes_once : (r s : Result (Unit {0}) Refusal) (after after' : Meaning) → Pokes before page offset byte r after → Pokes before page offset byte s after' → (r ≡ s) × (after ≡ after')
   pokes_once (Ok done) (Ok done') after after' p q = (refl, p.1 ∙ sym q.1)
   pokes_once (Ok done) (Err f) after after' p q = absurd (omega arith)

@@ -1,14 +1,11 @@
 -- What a joined memory tells of its parts. Assumes nothing.
-use Rattle.std.proofs.Common.{◌≡◌, ℕ, ◌+◌, ◌-◌, ◌^◌, ◌<◌, ◌≤◌, Ok, Err, Result, sym, refl, ap, ◌∙◌, inl, inr, ⊎_elim, arith}
-use mathlib.Core.Path.{fun_ext}
+use Rattle.std.proofs.Common.{◌≡◌, ℕ, ◌+◌, ◌-◌, ◌^◌, ◌<◌, ◌≤◌, sym, ap, ◌∙◌, inl, inr, ⊎_elim, arith}
 use Rattle.std.proofs.lemmas.Bool.{cases_lt}
 use Rattle.std.proofs.lemmas.Bool.Decides.{nat_tests}
-use Rattle.refusals.specs.declared.Refusal.{Refusal}
-use Rattle.memories.specs.Calls.{Pokes}
 use Rattle.memories.specs.Frames.{cut}
 use Rattle.memories.specs.Kinds.{joined}
 use Rattle.memories.specs.Laws.{JoinedLaws}
-use Rattle.memories.specs.Meaning.{Meaning, Sound, poked}
+use Rattle.memories.specs.Meaning.{Meaning, Sound}
 use Rattle.memories.proofs.Filled.{same_meaning}
 
 pub first_byte : (a b : Meaning) → Sound a → (page offset : ℕ) → page < a.pages → (joined a b).byte page offset ≡ a.byte page offset
@@ -54,20 +51,3 @@ module _ (a b a' b' : Meaning)
 
 pub joined_laws : JoinedLaws
 joined_laws = record { first = first_byte; second = second_byte; fixed = parts_fixed }
-
--- a poke of the second part, told of the whole; what is past page 65,535 stays
-module _ (a b b' : Meaning)
-    (page behind offset byte : ℕ)
-    (there : a.pages + behind ≡ page)
-    (named : page < 2 ^ 16)
-    (cell : offset < 256)
-    (small : byte < 256) where
-  pub second_poked : (r : Result (Unit {0}) Refusal) → Pokes b behind offset byte r b' → Pokes (joined a b) page offset byte r (joined a b') × (cut a b' ≡ cut a b)
-  second_poked (Ok done) h = (
-    (omega (arith, h.0), ap (joined a) h.1 ∙ same_meaning (joined a (poked b behind offset byte)) (poked (joined a b) page offset byte) refl (λ p o. grind (arith, nat_tests))),
-    ap (cut a) h.1 ∙ (λ i. record { first_pages = a.pages; second_pages = b.pages; beyond = fun_ext (λ p. fun_ext (λ o. kept p o)) i }),
-  )
-    where
-      kept : (p o : ℕ) → (cut a (poked b behind offset byte)).beyond p o ≡ (cut a b).beyond p o
-      kept p o = grind (arith, nat_tests)
-  second_poked (Err refusal) h = ((omega (arith, h.0), h.1, ap (joined a) h.2), ap (cut a) h.2)

@@ -1,22 +1,19 @@
 // Memory on the board: the whole pages of bytes that are lent.
-ghost use Rattle.std.specs.Prelude.{◌≡◌, ◌+◌, ◌*◌, ◌<◌, length, slice_index};
-ghost use Rattle.memories.specs.Calls.{IfPage};
+ghost use Rattle.std.specs.Prelude.{◌≡◌, ◌<◌, length, slice_index};
 ghost use Rattle.memories.specs.Frames.{BoardFrame, board_frame};
 ghost use Rattle.memories.specs.Kinds.{board};
 ghost use Rattle.memories.specs.Lengths.{Checks};
 ghost use Rattle.memories.specs.Soundness.{filled_sound};
 
-use crate::memory::{MOST_PAGES, Memory};
+use crate::memory::{MOST_PAGES, Memory, PAGE_BYTES, index_of};
 use refusals::Refusal;
-
-const PAGE_BYTES: usize = 256;
 
 #[derive(Drop)]
 pub struct BoardMemory<'a> {
     bytes: &'a mut [u8],
 }
 
-// Read by a call, since its result is known to be a byte.
+// Read by a call, since the proof needs that it is a byte, which it does not know of the bytes behind a field.
 fn byte_at(bytes: &[u8], index: usize) -> u8
     requires { index < length bytes.now }
     ensures { result ≡ slice_index bytes.now index }
@@ -43,16 +40,6 @@ impl<'a> BoardMemory<'a> {
     {
         BoardMemory { bytes }
     }
-
-    // Where a cell is among the bytes, if there is such a page.
-    fn index_of(&self, page: u16, offset: u8) -> Result<usize, Refusal>
-        ensures { IfPage (board self.now).pages page (256 * page + offset) result }
-    {
-        if u32::from(page) >= self.page_count() {
-            return Err(Refusal::NoSuchPage);
-        }
-        Ok(PAGE_BYTES * usize::from(page) + usize::from(offset))
-    }
 }
 
 impl<'a> Memory for BoardMemory<'a> {
@@ -69,12 +56,12 @@ impl<'a> Memory for BoardMemory<'a> {
     }
 
     fn peek(&self, page: u16, offset: u8) -> Result<u8, Refusal> {
-        let index = self.index_of(page, offset)?;
+        let index = index_of(self.page_count(), page, offset)?;
         Ok(byte_at(self.bytes, index))
     }
 
     fn poke(&mut self, page: u16, offset: u8, byte: u8) -> Result<(), Refusal> {
-        let index = self.index_of(page, offset)?;
+        let index = index_of(self.page_count(), page, offset)?;
         self.bytes[index] = byte;
         Ok(())
     }

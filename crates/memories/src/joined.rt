@@ -18,13 +18,8 @@ impl<A: Memory, B> Joined<A, B> {
     fn page_of_second(&self, page: u16) -> Option<u16>
         ensures { MatchOption result (page < (A.meaning self.now.first).pages) (λ behind. (A.meaning self.now.first).pages + behind ≡ page) }
     {
-        let boundary = self.first.page_count();
-        let page = u32::from(page);
-        if page < boundary {
-            None
-        } else {
-            Some((page - boundary) as u16)
-        }
+        let behind = u32::from(page).checked_sub(self.first.page_count())?;
+        Some(behind as u16)
     }
 }
 

@@ -1,26 +1,15 @@
 // Memory on the chip: one page of its own.
 ghost use Rattle.std.specs.Prelude.{◌≡◌, slice_index};
-ghost use Rattle.memories.specs.Calls.{IfPage};
 ghost use Rattle.memories.specs.Kinds.{blank, on_chip};
 ghost use Rattle.memories.specs.Laws.{MemoryLaws};
 ghost use Rattle.memories.specs.Soundness.{filled_sound};
 
-use crate::memory::Memory;
+use crate::memory::{Memory, PAGE_BYTES, index_of};
 use refusals::Refusal;
 
 #[derive(Drop)]
 pub struct OnChip {
-    cells: [u8; 256],
-}
-
-// Where a cell is, if there is such a page.
-fn index_of(page: u16, offset: u8) -> Result<usize, Refusal>
-    ensures { IfPage 1 page offset result }
-{
-    if page != 0 {
-        return Err(Refusal::NoSuchPage);
-    }
-    Ok(usize::from(offset))
+    cells: [u8; PAGE_BYTES],
 }
 
 impl OnChip {
@@ -29,7 +18,9 @@ impl OnChip {
         ensures value { on_chip result ≡ blank }
         ensures laws { MemoryLaws }
     {
-        OnChip { cells: [0; 256] }
+        OnChip {
+            cells: [0; PAGE_BYTES],
+        }
     }
 }
 
@@ -47,12 +38,12 @@ impl Memory for OnChip {
     }
 
     fn peek(&self, page: u16, offset: u8) -> Result<u8, Refusal> {
-        let index = index_of(page, offset)?;
+        let index = index_of(self.page_count(), page, offset)?;
         Ok(self.cells[index])
     }
 
     fn poke(&mut self, page: u16, offset: u8, byte: u8) -> Result<(), Refusal> {
-        let index = index_of(page, offset)?;
+        let index = index_of(self.page_count(), page, offset)?;
         self.cells[index] = byte;
         Ok(())
     }

@@ -111,35 +111,35 @@ impl Refusal {
         ensures { result ≡ value_of self.now }
     {
         match self {
-            Refusal::ImageLength => 0,
-            Refusal::WordTooLarge { address } => *address,
-            Refusal::PageRange => 0,
-            Refusal::TooFewRows => 0,
-            Refusal::SuccessorOutside { address } => *address,
-            Refusal::UndefinedReached { address } => *address,
-            Refusal::FramesMixed { address } => *address,
-            Refusal::ReturnMisplaced { address } => *address,
-            Refusal::PageRegisterWritten { address } => *address,
-            Refusal::StackTooDeep => 0,
-            Refusal::PageNotOwned { address } => *address,
-            Refusal::NoSuchPage => 0,
-            Refusal::TooManyTicks => 0,
-            Refusal::TickTooLarge { place } => *place,
-            Refusal::LoadBytesTooShort => 0,
-            Refusal::PcOutside { pc } => *pc,
-            Refusal::UndefinedWord { pc } => *pc,
-            Refusal::NotInService { pc } => *pc,
-            Refusal::StackEmpty { pc } => *pc,
-            Refusal::NextOutside { pc } => *pc,
-            Refusal::StackFull { pc } => *pc,
-            Refusal::MissingPage { pc } => *pc,
-            Refusal::ExportsFull { pc } => *pc,
-            Refusal::UnknownKind { place } => *place,
-            Refusal::RecordCutOff { place } => *place,
-            Refusal::TooManyRecords { place } => *place,
+            Refusal::WordTooLarge { address }
+            | Refusal::SuccessorOutside { address }
+            | Refusal::UndefinedReached { address }
+            | Refusal::FramesMixed { address }
+            | Refusal::ReturnMisplaced { address }
+            | Refusal::PageRegisterWritten { address }
+            | Refusal::PageNotOwned { address } => *address,
+            Refusal::TickTooLarge { place }
+            | Refusal::UnknownKind { place }
+            | Refusal::TooManyRecords { place }
+            | Refusal::RecordCutOff { place } => *place,
+            Refusal::PcOutside { pc }
+            | Refusal::UndefinedWord { pc }
+            | Refusal::NotInService { pc }
+            | Refusal::StackEmpty { pc }
+            | Refusal::NextOutside { pc }
+            | Refusal::StackFull { pc }
+            | Refusal::MissingPage { pc }
+            | Refusal::ExportsFull { pc } => *pc,
             Refusal::JobTooLong => 65_535,
-            Refusal::BoardMemoryLength => 0,
-            Refusal::FieldOutOfRange => 0,
+            Refusal::ImageLength
+            | Refusal::PageRange
+            | Refusal::TooFewRows
+            | Refusal::StackTooDeep
+            | Refusal::NoSuchPage
+            | Refusal::TooManyTicks
+            | Refusal::LoadBytesTooShort
+            | Refusal::BoardMemoryLength
+            | Refusal::FieldOutOfRange => 0,
         }
     }
 }

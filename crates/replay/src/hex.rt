@@ -2,12 +2,7 @@
 use std::alloc::{AllocError, Global};
 
 fn digit(letter: u8) -> Option<u8> {
-    match letter {
-        b'0'..=b'9' => Some(letter - b'0'),
-        b'a'..=b'f' => Some(letter - b'a' + 10),
-        b'A'..=b'F' => Some(letter - b'A' + 10),
-        _ => None,
-    }
+    char::from(letter).to_digit(16).map(|digit| digit as u8)
 }
 
 // The bytes that the digits spell, the high digit first; what is no digit is skipped.

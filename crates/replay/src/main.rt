@@ -43,21 +43,19 @@ impl Session {
     }
 
     fn take(&mut self, rt: &HostRuntime, line: &str) -> anyhow::Result<()> {
-        match line.as_bytes() {
-            [b'j', b'o', b'b', b':', letters @ ..] => self.open(rt, letters),
-            [b'#', ..] => Ok(()),
-            [] => Ok(()),
-            _ => {
-                self.expected.push_str(line)?;
-                self.expected.push('\n')?;
-                Ok(())
-            }
+        if let Some(letters) = line.strip_prefix("job:") {
+            return self.open(rt, letters.as_bytes());
         }
+        if !line.is_empty() && !line.starts_with('#') {
+            self.expected.push_str(line)?;
+            self.expected.push('\n')?;
+        }
+        Ok(())
     }
 }
 
-fn replay(rt: &HostRuntime) -> anyhow::Result<()> {
-    let mut state = Session {
+fn main(rt: HostRuntime) -> anyhow::Result<()> {
+    let mut session = Session {
         jobs: 0,
         agreeing: 0,
         told: String::new(rt.alloc()),
@@ -65,14 +63,10 @@ fn replay(rt: &HostRuntime) -> anyhow::Result<()> {
     };
     for line in BufReader::new(rt.alloc(), rt.stdin())?.lines(rt.alloc()) {
         let text = line?;
-        state.take(rt, text.as_str())?;
+        session.take(&rt, text.as_str())?;
     }
-    state.close(rt)?;
-    let agreeing = state.agreeing;
+    session.close(&rt)?;
+    let agreeing = session.agreeing;
     println!(rt; "{agreeing} jobs agree")?;
     Ok(())
-}
-
-fn main(rt: HostRuntime) -> anyhow::Result<()> {
-    replay(&rt)
 }

@@ -1,28 +1,17 @@
 // What the library says of a job, in the lines of the stored jobs.
-use huigasto::{FrameMarks, Job, Row, inspect, report};
+use huigasto::{Job, Row, inspect, report};
 use std::alloc::{AllocError, Global};
 
-fn marks(marks: FrameMarks) -> &'static str {
-    match (marks.outer, marks.routine) {
-        (true, true) => "OR",
-        (true, false) => "O",
-        (false, true) => "R",
-        (false, false) => "-",
-    }
-}
-
 fn write_row(text: &mut String, address: usize, row: Row) -> Result<(), AllocError> {
-    let main = marks(row.main);
-    let handler = marks(row.handler);
-    write!(text, "ROW {address} {main} {handler}")?;
+    write!(text, "ROW {address} {} {}", row.main, row.handler)?;
     write!(text, " {} {}", row.r14.low, row.r14.high)?;
     write!(text, " {} {}", row.r15.low, row.r15.high)?;
     writeln!(text, " {}", row.need)
 }
 
 fn write_rows(text: &mut String, rows: &[Row]) -> Result<(), AllocError> {
-    for address in 0..rows.len() {
-        write_row(text, address, rows[address])?;
+    for (address, row) in rows.iter().enumerate() {
+        write_row(text, address, *row)?;
     }
     Ok(())
 }

@@ -12,53 +12,31 @@ use machine::board::Board;
 use machine::report::RunReport;
 use memories::board::BoardMemory;
 use refusals::Refusal;
+use words::MOST_WORDS;
 
-// The most words that an image can have, and the exports that a run has room for.
-const MOST_WORDS: usize = 4096;
-
+// The exports that a run has room for.
 const MOST_EXPORTS: usize = 4096;
 
 // 64 pages.
 const CELLS: usize = 16_384;
 
-fn judge_with(words: &[u32], owned: OwnedPages, rows: &mut [Row]) -> Result<usize, Refusal>
-    ensures { Judged words.now owned rows.old result }
-{
-    match inspect(words, owned, rows) {
-        Ok(passed) => Ok(passed.depth()),
-        Err(refusal) => Err(refusal),
-    }
-}
-
 // The certified depth of the program, or why it is refused.
 fn judge(words: &[u32], owned: OwnedPages) -> Result<usize, Refusal>
     ensures { Judged words.now owned (replicate 4096 blank_row) result }
 {
-    let blank = Row::blank();
-    let mut rows = [blank; MOST_WORDS];
-    judge_with(words, owned, &mut rows)
-}
-
-fn try_with(
-    words: &[u32],
-    ticks: &[u16],
-    cells: &mut [u8],
-    exports: &mut [u32],
-) -> Result<RunReport, Refusal>
-    ensures { Tried words.now ticks.now cells.old exports.old result }
-{
-    let mut board = Board::new();
-    let mut memory = BoardMemory::new(cells);
-    board.run(words, ticks, &mut memory, exports)
+    let mut rows = [Row::blank(); MOST_WORDS];
+    inspect(words, owned, &mut rows).map(|passed| passed.depth())
 }
 
 // The run of the program on a newly reset board.
 fn try_run(words: &[u32], ticks: &[u16]) -> Result<RunReport, Refusal>
     ensures { Tried words.now ticks.now (replicate 16384 0) (replicate 4096 0) result }
 {
-    let mut cells = [0u8; CELLS];
-    let mut exports = [0u32; MOST_EXPORTS];
-    try_with(words, ticks, &mut cells, &mut exports)
+    let mut board = Board::new();
+    let mut cells = [0; CELLS];
+    let mut memory = BoardMemory::new(&mut cells);
+    let mut exports = [0; MOST_EXPORTS];
+    board.run(words, ticks, &mut memory, &mut exports)
 }
 
 // Inspects the job's program for its owned pages, and runs it for its ticks, refused or not.

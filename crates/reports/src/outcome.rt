@@ -8,7 +8,7 @@ use refusals::Refusal;
 use std::fmt;
 
 // What came of a job that was carried out.
-#[derive(Clone, Copy, Debug)]
+#[derive(Clone, Copy, Debug, PartialEq, Eq)]
 pub struct JobReport {
     // The certified depth of the program, or why it is refused.
     pub verdict: Result<usize, Refusal>,
@@ -16,7 +16,8 @@ pub struct JobReport {
     pub run: Result<RunReport, Refusal>,
 }
 
-#[derive(Clone, Copy, Debug)]
+// An outcome either way, so no `Result`: it has one text, and a refused job is no failure of the call.
+#[derive(Clone, Copy, Debug, PartialEq, Eq)]
 pub enum JobOutcome {
     CarriedOut(JobReport),
     // The bytes tell no job.

@@ -15,6 +15,7 @@ pub fn outcome(heap: Global, bytes: &[u8]) -> Result<JobOutcome, AllocError>
     match Job::read(heap, bytes) {
         Ok(job) => Ok(JobOutcome::CarriedOut(carry_out(&job))),
         Err(JobError::Refused(refusal)) => Ok(JobOutcome::Refused(refusal)),
+        // By hand, since the job's error does not hold the library's.
         Err(JobError::OutOfMemory) => Err(AllocError),
     }
 }

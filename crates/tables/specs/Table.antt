@@ -1,12 +1,12 @@
 -- The ledger of an image as comma-separated text: a line of column names, and a line for each word. Assumes nothing.
 --
 -- Each line is ended by a newline (10). An instruction stands between quotes (34), since its text may hold a comma.
-use Rattle.std.specs.Prelude.{ℕ, ◌+◌, cond, List, [], ◌∷◌, ◌++◌, Some, None, codes, decimal, Option}
+use Rattle.std.specs.Prelude.{ℕ, ◌+◌, List, [], ◌∷◌, ◌++◌, Some, None, codes, decimal, Option}
 use Rattle.words.specs.declared.instruction.Instruction.{Instruction}
 use Rattle.words.specs.Decoding.{instruction_of}
 use Rattle.words.specs.Text.{text}
 use Rattle.facts.specs.declared.interval.Interval.{Interval}
-use Rattle.facts.specs.declared.marks.FrameMarks.{FrameMarks}
+pub use Rattle.facts.specs.Marks.{marks_text}
 use Rattle.ledger.specs.declared.row.Row.{Row}
 use Rattle.jobs.specs.Listing.{word_digits}
 
@@ -17,10 +17,6 @@ header_text = codes "address,word,instruction,main,handler,r14_low,r14_high,r15_
 abbrev pub instruction_text : Option Instruction → List ℕ
 instruction_text None = []
 instruction_text (Some instruction) = text instruction
-
--- `O` for the outer frame, `R` for a routine's, both, or a dash for none
-abbrev pub marks_text : FrameMarks → List ℕ
-marks_text marks = cond marks.outer (cond marks.routine (codes "OR") (codes "O")) (cond marks.routine (codes "R") (codes "-"))
 
 abbrev pub interval_text : Interval → List ℕ
 interval_text interval = decimal interval.low ++ (codes "," ++ decimal interval.high)

@@ -1,25 +1,14 @@
 // The text of a ledger's table.
 ghost use Rattle.std.specs.Prelude.{◌≡◌, ◌++◌, IfOk, Some, string_bytes, OnOk};
-ghost use Rattle.words.specs.Decoding.{instruction_of};
-ghost use Rattle.tables.specs.Table.{instruction_text, marks_text, interval_text, row_text, line_text, lines_text, table_text};
+ghost use Rattle.tables.specs.Table.{instruction_text, interval_text, row_text, line_text, lines_text, table_text};
 
 use facts::interval::Interval;
-use facts::marks::FrameMarks;
 use jobs::listing::HexWord;
 use ledger::row::Row;
 use std::alloc::{AllocError, Global};
 use std::fmt;
+use words::decoding::instruction_of;
 use words::instruction::Instruction;
-
-// The instruction that a word stands for.
-fn instruction(word: u32) -> Option<Instruction>
-    ensures { result ≡ instruction_of word }
-{
-    match Instruction::decode(word) {
-        Ok(instruction) => Some(instruction),
-        Err(_) => None,
-    }
-}
 
 // Nothing where the word is no instruction.
 #[derive(Clone, Copy)]
@@ -32,27 +21,6 @@ impl fmt::Display for Decoded {
         match self.0 {
             Some(instruction) => write!(f, "{instruction}"),
             None => Ok(()),
-        }
-    }
-}
-
-#[derive(Clone, Copy)]
-struct Marks(FrameMarks);
-
-impl fmt::Display for Marks {
-    ghost output = { λ m. Some (marks_text m.0) };
-
-    fn fmt<W: fmt::Write>(&self, f: &mut fmt::Formatter<W>) -> fmt::Result {
-        if self.0.outer {
-            if self.0.routine {
-                write!(f, "OR")
-            } else {
-                write!(f, "O")
-            }
-        } else if self.0.routine {
-            write!(f, "R")
-        } else {
-            write!(f, "-")
         }
     }
 }
@@ -76,8 +44,8 @@ impl fmt::Display for Columns {
     ghost output = { λ c. Some (row_text c.0) };
 
     fn fmt<W: fmt::Write>(&self, f: &mut fmt::Formatter<W>) -> fmt::Result {
-        let main = Marks(self.0.main);
-        let handler = Marks(self.0.handler);
+        let main = self.0.main;
+        let handler = self.0.handler;
         let r14 = Ends(self.0.r14);
         let r15 = Ends(self.0.r15);
         write!(f, "{main},{handler},{r14},{r15},{}", self.0.need)
@@ -103,32 +71,29 @@ impl fmt::Display for Line {
     }
 }
 
-fn write_lines(text: &mut String, words: &[u32], rows: &[Row]) -> fmt::Result
+fn write_lines(text: &mut String, words: &[u32], rows: &[Row]) -> Result<(), AllocError>
     ensures { OnOk result (string_bytes text.new ≡ string_bytes text.old ++ lines_text 0 words.now rows.now) }
 {
-    let count = words.len().min(rows.len());
-    for address in 0..count {
-        let word = words[address];
+    for (address, (word, row)) in words.iter().zip(rows).enumerate() {
         let line = Line {
             address,
-            word,
-            instruction: instruction(word),
-            row: rows[address],
+            word: *word,
+            instruction: instruction_of(*word),
+            row: *row,
         };
         writeln!(text, "{line}")?;
     }
     Ok(())
 }
 
-fn write_table(text: &mut String, words: &[u32], rows: &[Row]) -> fmt::Result
+fn write_table(text: &mut String, words: &[u32], rows: &[Row]) -> Result<(), AllocError>
     ensures { OnOk result (string_bytes text.new ≡ string_bytes text.old ++ table_text words.now rows.now) }
 {
     writeln!(
         text,
         "address,word,instruction,main,handler,r14_low,r14_high,r15_low,r15_high,need"
     )?;
-    write_lines(text, words, rows)?;
-    Ok(())
+    write_lines(text, words, rows)
 }
 
 // The table of the words that have a row.
@@ -136,8 +101,6 @@ pub fn ledger_table(heap: Global, words: &[u32], rows: &[Row]) -> Result<String,
     ensures { IfOk result (λ text. string_bytes text ≡ table_text words.now rows.now) }
 {
     let mut text = String::new(heap);
-    match write_table(&mut text, words, rows) {
-        Ok(()) => Ok(text),
-        Err(_) => Err(AllocError),
-    }
+    write_table(&mut text, words, rows)?;
+    Ok(text)
 }

@@ -9,42 +9,20 @@ use jobs::job::{Job, JobError};
 use ledger::owned::OwnedPages;
 use ledger::row::Row;
 use std::alloc::Global;
-
-// The most words that an image can have.
-const MOST_WORDS: usize = 4096;
-
-fn table_with(
-    heap: Global,
-    words: &[u32],
-    owned: OwnedPages,
-    rows: &mut [Row],
-) -> Result<String, JobError>
-    ensures { MatchResult result (λ text. PassedTable owned words.now rows.old (string_bytes text)) (λ error. NoTable owned words.now rows.old error) }
-{
-    match inspect(words, owned, rows) {
-        Ok(_) => match ledger_table(heap, words, rows) {
-            Ok(text) => Ok(text),
-            Err(_) => Err(JobError::OutOfMemory),
-        },
-        Err(refusal) => Err(JobError::Refused(refusal)),
-    }
-}
+use words::MOST_WORDS;
 
 fn program_table(heap: Global, words: &[u32], owned: OwnedPages) -> Result<String, JobError>
     ensures { MatchResult result (λ text. PassedTable owned words.now (replicate 4096 blank_row) (string_bytes text)) (λ error. NoTable owned words.now (replicate 4096 blank_row) error) }
 {
-    let blank = Row::blank();
-    let mut rows = [blank; MOST_WORDS];
-    table_with(heap, words, owned, &mut rows)
+    let mut rows = [Row::blank(); MOST_WORDS];
+    inspect(words, owned, &mut rows)?;
+    Ok(ledger_table(heap, words, &rows)?)
 }
 
 // The table of the job's program if it passes inspection, or why there is none.
 pub fn job_table(heap: Global, bytes: &[u8]) -> Result<String, JobError>
     ensures { MatchResult result (λ text. JobTable bytes.now (string_bytes text)) (λ error. NoJobTable bytes.now error) }
 {
-    match Job::read(heap, bytes) {
-        Ok(job) => program_table(heap, job.words.as_slice(), job.pages),
-        Err(JobError::Refused(refusal)) => Err(JobError::Refused(refusal)),
-        Err(JobError::OutOfMemory) => Err(JobError::OutOfMemory),
-    }
+    let job = Job::read(heap, bytes)?;
+    program_table(heap, job.words.as_slice(), job.pages)
 }

@@ -13,23 +13,6 @@ use inspection::passed::PassedImage;
 use machine::board::Board;
 use memories::memory::Memory;
 
-// Performs the calls on a newly reset board.
-fn perform_newly<M: Memory>(
-    passed: &PassedImage,
-    board: &mut Board,
-    memory: &mut M,
-    calls: &[Call],
-    exports: &mut [u32],
-    answers: &mut [Answer],
-) -> usize
-    ensures count { result ≡ min (length calls.now) (length answers.old) }
-    ensures performs { PerformsAll passed.now.words.now (calls_of (length exports.old) (take result calls.now)) (start (M.meaning memory.old)) exports.old answers.old (state_of board.new (M.meaning memory.new)) exports.new answers.new }
-    ensures rest { M.frame memory.new ≡ M.frame memory.old }
-{
-    board.reset();
-    perform_all(board, passed.words(), calls, memory, exports, answers)
-}
-
 // Resets the board and performs the calls in order, as many as there are places for answers, and says how many those are.
 // A run writes its exports into the given list, from place 0 on.
 pub fn trial<M: Memory>(
@@ -45,5 +28,6 @@ pub fn trial<M: Memory>(
     ensures rest { M.frame memory.new ≡ M.frame memory.old }
     ensures safe { Certified passed.now → passed.now.owned.last < (M.meaning memory.old).pages → TrialSafe passed.now.words.now passed.now.owned passed.now.depth (M.meaning memory.old) (calls_of (length exports.old) (take result calls.now)) answers.new (state_of board.new (M.meaning memory.new)) }
 {
-    perform_newly(passed, board, memory, calls, exports, answers)
+    board.reset();
+    perform_all(board, passed.words(), calls, memory, exports, answers)
 }

@@ -1,6 +1,8 @@
 -- The smallest kind of fact: whether an address can be reached at all. Assumes nothing.
 use Rattle.std.specs.Prelude.{false, cond, not, ◌||◌}
+use Rattle.std.proofs.Common.{rules}
 use Rattle.facts.specs.Kinds.{Kind}
+use Rattle.facts.specs.Laws.{Laws}
 use Rattle.trials.specs.declared.reach.Reach.{Reach}
 
 abbrev pub reach : Kind Reach
@@ -14,3 +16,6 @@ reach = record {
   resume = λ s x. x;
   names = λ w. false;
 }
+
+pub reach_laws : Laws reach
+reach_laws = search rules

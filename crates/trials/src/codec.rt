@@ -1,5 +1,7 @@
 // Instruction words: every word there is, the maker's listing and trace, and the edges of each field.
 use huigasto::{Condition, FlagChange, Instruction, Operation, Refusal, Rotation, Transfer};
+use std::alloc::Global;
+use std::process::Abort;
 use std::test::Fail;
 
 // Ten operations of two registers and of a register and a constant, four rotations, six flag changes, eight transfers,
@@ -18,21 +20,37 @@ fn every_defined_word_comes_back(rt: HostRuntime) {
     assert_eq!(rt; defined, DEFINED);
 }
 
-#[test]
-fn wide_words_are_refused(rt: HostRuntime) {
-    for word in [
-        0x4_0000,
-        0x4_8110,
-        0x10_0000,
-        0xFF_FFFF,
-        0x8000_0000,
-        u32::MAX,
-    ] {
+// None of the words is an instruction.
+fn undefined(rt: &impl Abort, words: &[u32]) {
+    for word in words {
         assert_eq!(rt;
-            Instruction::decode(word),
+            Instruction::decode(*word),
             Err(Refusal::UndefinedWord { pc: 0 })
         );
     }
+}
+
+const WIDE: [u32; 6] = [
+    0x4_0000,
+    0x4_8110,
+    0x10_0000,
+    0xFF_FFFF,
+    0x8000_0000,
+    u32::MAX,
+];
+
+#[test]
+fn wide_words_are_refused(rt: HostRuntime) {
+    undefined(&rt, &WIDE);
+}
+
+// Each word stands for the instruction that is written so.
+fn spelled(rt: &impl Abort, heap: Global, table: &[(u32, &str)]) -> Result<(), Fail> {
+    for (word, text) in table {
+        let shown = Instruction::decode(*word)?.to_string(heap)?;
+        assert_eq!(rt; shown.as_str(), *text);
+    }
+    Ok(())
 }
 
 // The figures of the maker's guide: a listing and the trace of the same program. The listing writes `nop` for the
@@ -58,11 +76,7 @@ const FIGURES: [(u32, &str); 16] = [
 
 #[test]
 fn figures_of_the_guide(rt: HostRuntime) -> Result<(), Fail> {
-    for (word, text) in FIGURES {
-        let shown = Instruction::decode(word)?.to_string(rt.alloc())?;
-        assert_eq!(rt; shown.as_str(), text);
-    }
-    Ok(())
+    spelled(&rt, rt.alloc(), &FIGURES)
 }
 
 // The guide's listing gives 0x33001 for `b start`, one word ahead; its bit tables make that word a `bnc`, and `b` 0x3B001.
@@ -111,11 +125,7 @@ const SAMPLES: [(u32, &str); 26] = [
 
 #[test]
 fn samples_of_every_pattern(rt: HostRuntime) -> Result<(), Fail> {
-    for (word, text) in SAMPLES {
-        let shown = Instruction::decode(word)?.to_string(rt.alloc())?;
-        assert_eq!(rt; shown.as_str(), text);
-    }
-    Ok(())
+    spelled(&rt, rt.alloc(), &SAMPLES)
 }
 
 // Words that miss a pattern by one bit, and the reserved opcodes.
@@ -126,12 +136,7 @@ const UNDEFINED: [u32; 14] = [
 
 #[test]
 fn near_misses_are_refused(rt: HostRuntime) {
-    for word in UNDEFINED {
-        assert_eq!(rt;
-            Instruction::decode(word),
-            Err(Refusal::UndefinedWord { pc: 0 })
-        );
-    }
+    undefined(&rt, &UNDEFINED);
 }
 
 // Each instruction with a field just out of range.

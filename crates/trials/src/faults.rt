@@ -192,10 +192,7 @@ fn pc_outside_the_image(rt: HostRuntime) -> Result<(), Fail> {
 fn hindrance_of(image: &[u32], ticks: &[u16]) -> Option<Refusal> {
     let mut board = Board::new();
     let mut memory = OnChip::new();
-    match board.run(image, ticks, &mut memory, &mut []) {
-        Ok(_) => None,
-        Err(refusal) => Some(refusal),
-    }
+    board.run(image, ticks, &mut memory, &mut []).err()
 }
 
 #[test]

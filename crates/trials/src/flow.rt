@@ -34,14 +34,14 @@ fn marks_of(image: &[u32]) -> [FrameMarks; 8] {
     table
 }
 
-fn spans(low14: u8, high14: u8, low15: u8, high15: u8) -> PageSpans {
+fn spans(low14: u8, high14: u8, low15: u8, high15: u8) -> Option<PageSpans> {
     let r14 = Interval::point(low14).hull(Interval::point(high14));
     let r15 = Interval::point(low15).hull(Interval::point(high15));
-    PageSpans::Spans { r14, r15 }
+    Some(PageSpans { r14, r15 })
 }
 
-fn spans_of(image: &[u32]) -> [PageSpans; 8] {
-    let mut table = [PageSpans::Nothing; 8];
+fn spans_of(image: &[u32]) -> [Option<PageSpans>; 8] {
+    let mut table = [None; 8];
     if image.len() <= 8 {
         smallest(image, &mut table, 1, spans(0, 0, 0, 0));
     }
@@ -58,7 +58,7 @@ fn a_loop_backwards(rt: HostRuntime) {
         [NONE, OUTER, OUTER, BOTH, BOTH, BOTH, BOTH, BOTH]
     );
     let table = spans_of(&LOOP_BACK);
-    assert_eq!(rt; table[0], PageSpans::Nothing);
+    assert_eq!(rt; table[0], None);
     assert_eq!(rt; table[1], spans(0, 3, 0, 0));
     assert_eq!(rt; table[2], spans(3, 3, 0, 0));
 }
@@ -114,8 +114,8 @@ fn no_word_and_one(rt: HostRuntime) {
 fn a_third_kind(rt: HostRuntime) {
     let mut table = [Reach { reached: true }; 7];
     smallest(&MUTUAL, &mut table, 3, Reach { reached: true });
-    let reached = [false, false, false, true, true, true, true];
-    for (fact, expected) in table.iter().zip(&reached) {
-        assert_eq!(rt; fact.reached, *expected);
-    }
+    assert_eq!(rt;
+        table.map(|fact| fact.reached),
+        [false, false, false, true, true, true, true]
+    );
 }

@@ -1,6 +1,5 @@
 // A third kind of fact, to show that one needs nothing but its laws.
-ghost use Rattle.trials.specs.Reach.{reach};
-ghost use Rattle.std.proofs.Common.{rules};
+ghost use Rattle.trials.specs.Reach.{reach, reach_laws};
 
 use facts::fact::Fact;
 use words::instruction::Instruction;
@@ -14,7 +13,7 @@ pub struct Reach {
 impl Fact for Reach {
     ghost kind = { reach };
 
-    ghost laws = { Prim.search rules };
+    ghost laws = { reach_laws };
 
     fn bottom() -> Reach {
         Reach { reached: false }

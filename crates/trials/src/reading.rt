@@ -1,6 +1,7 @@
 // Jobs: a whole one, one cut at every place, both limits, and the order of refusals.
 use huigasto::{Job, JobError, OwnedPages, Refusal, listing};
-use std::alloc::{AllocError, Global};
+use std::alloc::Global;
+use std::process::Abort;
 use std::test::Fail;
 
 // Pages 3 to 3, seven words and six ticks.
@@ -14,11 +15,11 @@ const JOB: [u8; 51] = [
 const PLACES: [usize; 15] = [0, 5, 9, 13, 17, 21, 25, 29, 33, 36, 39, 42, 45, 48, 51];
 
 // The refusal of a job, if it is refused.
-fn refusal_of(heap: Global, bytes: &[u8]) -> Result<Option<Refusal>, AllocError> {
+fn refusal_of(heap: Global, bytes: &[u8]) -> Result<Option<Refusal>, JobError> {
     match Job::read(heap, bytes) {
         Ok(_) => Ok(None),
         Err(JobError::Refused(refusal)) => Ok(Some(refusal)),
-        Err(JobError::OutOfMemory) => Err(AllocError),
+        Err(error) => Err(error),
     }
 }
 
@@ -77,42 +78,36 @@ fn a_later_record_of_pages_counts(rt: HostRuntime) -> Result<(), Fail> {
     Ok(())
 }
 
-// A record, over and over.
-fn repeated(heap: Global, record: &[u8], times: usize) -> Result<Vec<u8>, AllocError> {
-    let mut bytes = Vec::new(heap);
-    for _ in 0..times {
-        bytes.extend_from_slice(record)?;
-    }
-    Ok(bytes)
+// Of a kind of record 4,096 are read, and one more is refused at its place.
+fn reads_at_most_4096(
+    rt: &impl Abort,
+    heap: Global,
+    record: &[u8],
+    place: usize,
+) -> Result<(), Fail> {
+    let full = record.repeat(heap, 4096)?;
+    assert_eq!(rt; refusal_of(heap, full.as_slice())?, None);
+    let over = record.repeat(heap, 4097)?;
+    assert_eq!(rt;
+        refusal_of(heap, over.as_slice())?,
+        Some(Refusal::TooManyRecords { place })
+    );
+    Ok(())
 }
 
 #[test]
 fn most_words(rt: HostRuntime) -> Result<(), Fail> {
-    let full = repeated(rt.alloc(), b"W\x01\x00\x00", 4096)?;
-    assert_eq!(rt; refusal_of(rt.alloc(), full.as_slice())?, None);
-    let over = repeated(rt.alloc(), b"W\x01\x00\x00", 4097)?;
-    assert_eq!(rt;
-        refusal_of(rt.alloc(), over.as_slice())?,
-        Some(Refusal::TooManyRecords { place: 16_384 })
-    );
-    Ok(())
+    reads_at_most_4096(&rt, rt.alloc(), b"W\x01\x00\x00", 16_384)
 }
 
 #[test]
 fn most_ticks(rt: HostRuntime) -> Result<(), Fail> {
-    let full = repeated(rt.alloc(), b"T\x01\x00", 4096)?;
-    assert_eq!(rt; refusal_of(rt.alloc(), full.as_slice())?, None);
-    let over = repeated(rt.alloc(), b"T\x01\x00", 4097)?;
-    assert_eq!(rt;
-        refusal_of(rt.alloc(), over.as_slice())?,
-        Some(Refusal::TooManyRecords { place: 12_288 })
-    );
-    Ok(())
+    reads_at_most_4096(&rt, rt.alloc(), b"T\x01\x00", 12_288)
 }
 
 #[test]
 fn longest_job(rt: HostRuntime) -> Result<(), Fail> {
-    let mut bytes = repeated(rt.alloc(), b"P\x00\x01\x00\x02", 13_107)?;
+    let mut bytes = b"P\x00\x01\x00\x02".repeat(rt.alloc(), 13_107)?;
     assert_eq!(rt; bytes.len(), 65_535);
     assert_eq!(rt; refusal_of(rt.alloc(), bytes.as_slice())?, None);
     bytes.push(b'P')?;
@@ -133,7 +128,7 @@ fn the_first_record_decides(rt: HostRuntime) -> Result<(), Fail> {
         refusal_of(rt.alloc(), b"P\x00\x00\x00")?,
         Some(Refusal::RecordCutOff { place: 0 })
     );
-    let mut over = repeated(rt.alloc(), b"T\x01\x00", 4096)?;
+    let mut over = b"T\x01\x00".repeat(rt.alloc(), 4096)?;
     over.extend_from_slice(b"T\x00")?;
     assert_eq!(rt;
         refusal_of(rt.alloc(), over.as_slice())?,

@@ -1,11 +1,12 @@
 // The refusals 1 to 4: both edges of each limit, their order, and that they leave every row as it was.
-use crate::asking::{STALE, packed, stale, verdict};
+use crate::asking::{BLANK, NONE, OUTER, Verdict, stale, told, verdict};
 use inspection::inspecting::inspect;
 use ledger::owned::OwnedPages;
 use ledger::row::Row;
+use refusals::Refusal;
 
 // An image, how many of its words and of ten rows are given, the owned pages, the verdict, and how many rows stay.
-type Trial = ([u32; 8], (usize, usize), (u32, u32), (u8, usize), usize);
+type Trial = ([u32; 8], (usize, usize), (u32, u32), Verdict, usize);
 
 // b 0 at address 1; nothing else is reached.
 const IDLE: [u32; 8] = [0x3A000, 0x3B000, 0, 0, 0, 0, 0, 0];
@@ -22,41 +23,59 @@ const FAULTY: [u32; 8] = [0x3A000, 0x39000, 0, 0, 0, 0, 0, 0];
 
 const TRIALS: [Trial; 21] = [
     // Words.
-    (IDLE, (0, 10), (0, 0), (1, 0), 10),
-    (IDLE, (1, 10), (0, 0), (1, 0), 10),
-    (IDLE, (2, 10), (0, 0), (0, 0), 8),
-    (LARGEST, (8, 10), (0, 0), (0, 0), 2),
-    (LARGER, (8, 10), (0, 0), (2, 4), 10),
-    (LARGE_FIRST, (8, 10), (0, 0), (2, 0), 10),
-    (LARGER, (4, 10), (0, 0), (0, 0), 6),
+    (IDLE, (0, 10), (0, 0), Err(Refusal::ImageLength), 10),
+    (IDLE, (1, 10), (0, 0), Err(Refusal::ImageLength), 10),
+    (IDLE, (2, 10), (0, 0), Ok(0), 8),
+    (LARGEST, (8, 10), (0, 0), Ok(0), 2),
+    (
+        LARGER,
+        (8, 10),
+        (0, 0),
+        Err(Refusal::WordTooLarge { address: 4 }),
+        10,
+    ),
+    (
+        LARGE_FIRST,
+        (8, 10),
+        (0, 0),
+        Err(Refusal::WordTooLarge { address: 0 }),
+        10,
+    ),
+    (LARGER, (4, 10), (0, 0), Ok(0), 6),
     // Pages.
-    (IDLE, (8, 10), (65_535, 65_535), (0, 0), 2),
-    (IDLE, (8, 10), (0, 65_535), (0, 0), 2),
-    (IDLE, (8, 10), (0, 65_536), (3, 0), 10),
-    (IDLE, (8, 10), (65_536, 65_536), (3, 0), 10),
-    (IDLE, (8, 10), (3, 3), (0, 0), 2),
-    (IDLE, (8, 10), (3, 2), (3, 0), 10),
-    (IDLE, (8, 10), (0, 4_294_967_295), (3, 0), 10),
+    (IDLE, (8, 10), (65_535, 65_535), Ok(0), 2),
+    (IDLE, (8, 10), (0, 65_535), Ok(0), 2),
+    (IDLE, (8, 10), (0, 65_536), Err(Refusal::PageRange), 10),
+    (IDLE, (8, 10), (65_536, 65_536), Err(Refusal::PageRange), 10),
+    (IDLE, (8, 10), (3, 3), Ok(0), 2),
+    (IDLE, (8, 10), (3, 2), Err(Refusal::PageRange), 10),
+    (
+        IDLE,
+        (8, 10),
+        (0, 4_294_967_295),
+        Err(Refusal::PageRange),
+        10,
+    ),
     // Rows.
-    (IDLE, (8, 8), (0, 0), (0, 0), 2),
-    (IDLE, (8, 7), (0, 0), (4, 0), 10),
-    (IDLE, (2, 0), (0, 0), (4, 0), 10),
+    (IDLE, (8, 8), (0, 0), Ok(0), 2),
+    (IDLE, (8, 7), (0, 0), Err(Refusal::TooFewRows), 10),
+    (IDLE, (2, 0), (0, 0), Err(Refusal::TooFewRows), 10),
     // Each before the next: 1 before 2, 2 before 3, 3 before 4, 4 before 8.
-    (LARGE_FIRST, (1, 0), (1, 0), (1, 0), 10),
-    (LARGER, (8, 7), (1, 0), (2, 4), 10),
-    (FAULTY, (8, 7), (1, 0), (3, 0), 10),
-    (FAULTY, (8, 7), (0, 0), (4, 0), 10),
+    (LARGE_FIRST, (1, 0), (1, 0), Err(Refusal::ImageLength), 10),
+    (
+        LARGER,
+        (8, 7),
+        (1, 0),
+        Err(Refusal::WordTooLarge { address: 4 }),
+        10,
+    ),
+    (FAULTY, (8, 7), (1, 0), Err(Refusal::PageRange), 10),
+    (FAULTY, (8, 7), (0, 0), Err(Refusal::TooFewRows), 10),
 ];
 
 // How many rows are still as they were made.
 fn count_stale(rows: &[Row]) -> usize {
-    let mut count: usize = 0;
-    for row in rows {
-        if packed(*row) == STALE {
-            count = count.wrapping_add(1);
-        }
-    }
-    count
+    rows.iter().filter(|row| **row == stale()).count()
 }
 
 // The verdict with so many of the rows, and how many of all of them stay.
@@ -65,7 +84,7 @@ fn attempt(
     (first, last): (u32, u32),
     count: usize,
     rows: &mut [Row],
-) -> ((u8, usize), usize) {
+) -> (Verdict, usize) {
     let count = count.min(rows.len());
     let answer = verdict(inspect(image, OwnedPages { first, last }, &mut rows[0..count]));
     (answer, count_stale(rows))
@@ -88,17 +107,20 @@ fn the_longest_image(rt: HostRuntime) {
     let mut image = [0x10000; 4097];
     image[4095] = 0x3B000;
     let mut rows = [stale(); 4097];
-    assert_eq!(rt; verdict(inspect(&image, owned, &mut rows)), (1, 0));
+    assert_eq!(rt;
+        verdict(inspect(&image, owned, &mut rows)),
+        Err(Refusal::ImageLength)
+    );
     assert_eq!(rt; count_stale(&rows), 4097);
-    assert_eq!(rt; verdict(inspect(&image[0..4096], owned, &mut rows)), (0, 0));
+    assert_eq!(rt; verdict(inspect(&image[0..4096], owned, &mut rows)), Ok(0));
     assert_eq!(rt; count_stale(&rows), 1);
-    assert_eq!(rt; packed(rows[4095]), 0x10_0000_0000_00);
+    assert_eq!(rt; told(rows[4095]), (OUTER, NONE, (0, 0), (0, 0), 0));
     assert_eq!(rt;
         verdict(inspect(&image[0..4095], owned, &mut rows)),
-        (5, 4094)
+        Err(Refusal::SuccessorOutside { address: 4094 })
     );
     assert_eq!(rt;
-        (packed(rows[4094]), packed(rows[4095])),
-        (0, 0x10_0000_0000_00)
+        (told(rows[4094]), told(rows[4095])),
+        (BLANK, (OUTER, NONE, (0, 0), (0, 0), 0))
     );
 }

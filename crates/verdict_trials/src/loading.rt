@@ -1,13 +1,9 @@
 // The load bytes of an image that has passed.
-use crate::asking::stale;
+use crate::asking::{EXAMPLE, stale};
 use inspection::inspecting::inspect;
 use ledger::owned::OwnedPages;
 use refusals::Refusal;
 use std::test::Fail;
-
-const EXAMPLE: [u32; 7] = [
-    0x3A000, 0x12E03, 0x2C005, 0x38002, 0x3B000, 0x2E12C, 0x39000,
-];
 
 // Three for each word, and three behind that stay.
 const LOADED: [u8; 24] = [

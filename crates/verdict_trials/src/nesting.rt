@@ -1,14 +1,15 @@
 // Calls nested as deep as the stack allows, and one deeper.
-use crate::asking::{stale, verdict};
+use crate::asking::{Verdict, stale, verdict};
 use inspection::inspecting::inspect;
 use ledger::owned::OwnedPages;
+use refusals::Refusal;
 
 // A first word, and behind it so many calls, each of the routine two addresses on: calls at even addresses, returns at
 // odd ones, b 0 where the outermost call resumes, and a bare iret at 0.
 fn nested(first: u32, calls: usize) -> [u32; 40] {
     let mut image = [0x39000; 40];
-    for call in 0..calls.min(18) {
-        image[2 * call + 2] = 0x38002;
+    for word in image.iter_mut().skip(2).step_by(2).take(calls) {
+        *word = 0x38002;
     }
     image[0] = 0x3A000;
     image[1] = first;
@@ -17,13 +18,13 @@ fn nested(first: u32, calls: usize) -> [u32; 40] {
 }
 
 // A nop or seti, the calls, and the verdict.
-const NESTS: [(u32, usize, (u8, usize)); 6] = [
-    (0x10000, 1, (0, 1)),
-    (0x10000, 16, (0, 16)),
-    (0x10000, 17, (10, 0)),
-    (0x2C005, 1, (0, 2)),
-    (0x2C005, 15, (0, 16)),
-    (0x2C005, 16, (10, 0)),
+const NESTS: [(u32, usize, Verdict); 6] = [
+    (0x10000, 1, Ok(1)),
+    (0x10000, 16, Ok(16)),
+    (0x10000, 17, Err(Refusal::StackTooDeep)),
+    (0x2C005, 1, Ok(2)),
+    (0x2C005, 15, Ok(16)),
+    (0x2C005, 16, Err(Refusal::StackTooDeep)),
 ];
 
 #[test]

@@ -20,7 +20,7 @@ fn one_offset_in_two_pages(rt: HostRuntime) -> Result<(), Fail> {
     let mut board = Board::new();
     let mut rows = [stale(); 7];
     let owned = OwnedPages { first: 3, last: 4 };
-    assert_eq!(rt; verdict(inspect(&TWO_PAGES, owned, &mut rows)), (0, 0));
+    assert_eq!(rt; verdict(inspect(&TWO_PAGES, owned, &mut rows)), Ok(0));
     board.run(&TWO_PAGES, &[0; 3], &mut memory, &mut [])?;
     assert_eq!(rt; (memory.peek(3, 32)?, memory.peek(4, 32)?), (32, 0));
     board.run(&TWO_PAGES, &[0; 2], &mut memory, &mut [])?;

@@ -1,4 +1,5 @@
 // A list of calls on a passed image, with a memory of two kinds: page 0 on the chip, pages 1 to 4 on the board.
+use crate::asking::EXAMPLE;
 use calls::answer::Answer;
 use calls::call::Call;
 use inspection::inspecting::inspect;
@@ -12,50 +13,41 @@ use refusals::Refusal;
 use std::test::Fail;
 use trial::trying::trial;
 
-// Enables interrupts and calls a routine that stores R1, which is 0, into cell 5 of page 3.
-const WORDS: [u32; 7] = [
-    0x3A000, 0x12E03, 0x2C005, 0x38002, 0x3B000, 0x2E12C, 0x39000,
-];
-
 const TICKS: [u16; 6] = [0, 0, 256, 0, 0, 0];
 
-// What each call answers: a number, and that of a refusal, or 0.
-const ANSWERS: [(usize, u8); 10] = [
-    (0, 0),
-    (0, 0),
-    (13, 0),
-    (0, 0),
-    (7, 0),
-    (0, 12),
-    (5, 0),
-    (0, 14),
-    (2, 0),
-    (0, 0),
+// What each call answers: cycles, pages or a byte, or a refusal.
+const ANSWERS: [Result<usize, Refusal>; 10] = [
+    Ok(0),
+    Ok(0),
+    Ok(13),
+    Ok(0),
+    Ok(7),
+    Err(Refusal::NoSuchPage),
+    Ok(5),
+    Err(Refusal::TickTooLarge { place: 0 }),
+    Ok(2),
+    Ok(0),
 ];
 
-fn refused(refusal: Refusal) -> (usize, u8) {
-    (0, refusal.number())
-}
-
-// The cycles of a step or run, the pages, or the byte.
-fn told(answer: Answer) -> (usize, u8) {
+// A run that stopped tells what stopped it.
+fn told(answer: Answer) -> Result<usize, Refusal> {
     match answer {
-        Answer::Step(Ok(stepped)) => (stepped.cycles as usize, 0),
-        Answer::Run(Ok(report)) => (report.cycles as usize, report.stop_number()),
-        Answer::PageCount(pages) => (pages as usize, 0),
-        Answer::Peek(Ok(byte)) => (usize::from(byte), 0),
-        Answer::Poke(Ok(())) | Answer::Reset => (0, 0),
-        Answer::Step(Err(refusal)) => refused(refusal),
-        Answer::Run(Err(refusal)) => refused(refusal),
-        Answer::Peek(Err(refusal)) => refused(refusal),
-        Answer::Poke(Err(refusal)) => refused(refusal),
+        Answer::Step(answer) => answer.map(|stepped| stepped.cycles as usize),
+        Answer::Run(answer) => answer.and_then(|report| match report.stop {
+            None => Ok(report.cycles as usize),
+            Some(refusal) => Err(refusal),
+        }),
+        Answer::Reset => Ok(0),
+        Answer::PageCount(pages) => Ok(pages as usize),
+        Answer::Peek(answer) => answer.map(usize::from),
+        Answer::Poke(answer) => answer.map(|_| 0),
     }
 }
 
 #[test]
 fn a_trial_answers_what_each_call_did(rt: HostRuntime) -> Result<(), Fail> {
     let mut rows = [Row::blank(); 7];
-    let passed = inspect(&WORDS, OwnedPages { first: 3, last: 3 }, &mut rows)?;
+    let passed = inspect(&EXAMPLE, OwnedPages { first: 3, last: 3 }, &mut rows)?;
     let mut bytes = [0u8; 1024];
     let mut memory = Joined {
         first: OnChip::new(),
@@ -93,8 +85,8 @@ fn a_trial_answers_what_each_call_did(rt: HostRuntime) -> Result<(), Fail> {
         &mut answers,
     );
     assert_eq!(rt; done, 10);
-    for place in 0..10 {
-        assert_eq!(rt; told(answers[place]), ANSWERS[place]);
+    for (answer, expected) in answers.iter().zip(&ANSWERS) {
+        assert_eq!(rt; told(*answer), *expected);
     }
     assert_eq!(rt; board.view().pc, 1);
     Ok(())

@@ -1,7 +1,8 @@
 -- Each defined word is written by one valid instruction, and no other word is. Assumes nothing.
-use Rattle.std.proofs.Common.{◌≡◌, ℕ, ◌-◌, ◌/◌, ◌%◌, ◌^◌, ◌<◌, ◌⊎◌, ℤ, pos, negsuc, IfSome, Some, None, Option, sym, refl, ◌∙◌, subst, inl, inr, ⊎_elim, arith, MatchOption}
+use Rattle.std.proofs.Common.{◌≡◌, ℕ, ◌-◌, ◌/◌, ◌%◌, ◌^◌, ◌<◌, ◌⊎◌, ℤ, pos, negsuc, IfSome, Some, None, Option, Result, sym, refl, ◌∙◌, subst, inl, inr, ⊎_elim, arith}
 use Rattle.std.proofs.lemmas.Bool.{cases_lt}
 use Rattle.std.proofs.lemmas.Bool.Decides.{nat_tests}
+use Rattle.refusals.specs.declared.Refusal.{Refusal}
 use Rattle.words.specs.declared.codes.Condition.{Condition}
 use Rattle.words.specs.declared.codes.FlagChange.{FlagChange}
 use Rattle.words.specs.declared.codes.Operation.{Operation}
@@ -161,7 +162,7 @@ computed_back Return h = refl
 computed_back ReturnFromInterrupt h = refl
 computed_back (Branch o) h = let l = offset_below o h in let f = offset_back o h in grind (arith, nat_tests)
 
-pub undefined_none : (w : ℕ) → (Defined w → ⊥) → instruction_of w ≡ None
+undefined_none : (w : ℕ) → (Defined w → ⊥) → instruction_of w ≡ None
 unfolding instruction_of
 undefined_none w u = grind (arith, nat_tests)
 
@@ -170,9 +171,14 @@ pub written_computed : (i : Instruction) (w : ℕ) → Writes i w → instructio
 written_computed i w h = subst (λ v. instruction_of v ≡ Some i) h.1 (computed_back i h.0)
 
 -- a decision is what the word computes to
-pub decided_computed : (w : ℕ) (o : Option Instruction) → MatchOption o (Defined w → ⊥) (λ i. Writes i w) → (o ≡ instruction_of w) × IfSome o (λ i. Valid i)
-decided_computed w None undefined = (sym (undefined_none w undefined), tt)
-decided_computed w (Some i) writes = (sym (written_computed i w writes), writes.0)
+abbrev pub Computed : ℕ → Option Instruction → Type 0
+Computed w o = (o ≡ instruction_of w) × IfSome o (λ i. Valid i)
+
+pub writes_computed : (i : Instruction) (w : ℕ) → Writes i w → Computed w (Some i)
+writes_computed i w writes = (sym (written_computed i w writes), writes.0)
+
+pub undefined_computed : (w : ℕ) → (Defined w → ⊥) → Computed w None
+undefined_computed w undefined = (sym (undefined_none w undefined), tt)
 
 same_some : (i j : Instruction) → Some i ≡ Some j → i ≡ j
 same_some i j e = cc
@@ -199,3 +205,6 @@ one_instruction_each = record {
   defined = λ i w h. subst Defined h.1 (valid_defined i h.0);
   only = λ i j w h k. same_some i j (sym (written_computed i w h) ∙ written_computed j w k);
 }
+
+pub computed_decodes : (w : ℕ) (r : Result Instruction Refusal) → r ≡ answer_of (instruction_of w) → Decodes w r
+computed_decodes w r e = subst (Decodes w) (sym e) (one_instruction_each.decoded w)

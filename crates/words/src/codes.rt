@@ -1,4 +1,6 @@
 // The small choices that an instruction word makes, each with the number that stands for it in the word.
+// A word's pattern is known before its code is read, so `from_code` asks for a known code: a `TryFrom` would have an
+// error that no word meets.
 ghost use Rattle.std.specs.Prelude.{◌≡◌, ◌<◌, ◌⊎◌};
 ghost use Rattle.words.specs.Codes.{operation_code, rotation_code, flag_code, transfer_code, condition_code};
 
@@ -35,12 +37,6 @@ impl Operation {
             _ => Operation::Test,
         }
     }
-
-    pub(crate) fn code(self) -> u32
-        ensures { result ≡ operation_code self }
-    {
-        self as u32
-    }
 }
 
 // How a rotate word turns a register by one bit: right or left, alone or through the carry.
@@ -63,12 +59,6 @@ impl Rotation {
             2 => Rotation::Rorc,
             _ => Rotation::Rolc,
         }
-    }
-
-    pub(crate) fn code(self) -> u32
-        ensures { result ≡ rotation_code self }
-    {
-        self as u32
     }
 }
 
@@ -97,12 +87,6 @@ impl FlagChange {
             _ => FlagChange::Seti,
         }
     }
-
-    pub(crate) fn code(self) -> u32
-        ensures { result ≡ flag_code self }
-    {
-        self as u32
-    }
 }
 
 // What moves between a register and a port or a scratchpad cell.
@@ -126,12 +110,6 @@ impl Transfer {
             _ => Transfer::Load,
         }
     }
-
-    pub(crate) fn code(self) -> u32
-        ensures { result ≡ transfer_code self }
-    {
-        self as u32
-    }
 }
 
 // The flag on which a branch or a call depends.
@@ -154,11 +132,5 @@ impl Condition {
             2 => Condition::Carry,
             _ => Condition::NotCarry,
         }
-    }
-
-    pub(crate) fn code(self) -> u32
-        ensures { result ≡ condition_code self }
-    {
-        self as u32
     }
 }

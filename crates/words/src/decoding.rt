@@ -1,15 +1,15 @@
 // From a word to the instruction that writes it.
-ghost use Rattle.std.specs.Prelude.{◌≡◌, ◌^◌, ◌<◌, IfSome, MatchOption};
+ghost use Rattle.std.specs.Prelude.{◌≡◌, ◌^◌, ◌<◌, IfSome};
 ghost use Rattle.words.specs.Bits.{bits, InOffsetRange, offset_field};
 ghost use Rattle.words.specs.Codec.{Writes};
 ghost use Rattle.words.specs.Decoding.{instruction_of};
 ghost use Rattle.words.specs.Encoding.{Valid};
-ghost use Rattle.words.specs.Patterns.{RegisterPattern, ImmediatePattern, RotatePattern, FlagPattern, TransferPattern, ConditionalPattern, UnconditionalPattern, Defined};
+ghost use Rattle.words.specs.Patterns.{RegisterPattern, ImmediatePattern, RotatePattern, FlagPattern, TransferPattern, ConditionalPattern, UnconditionalPattern};
 
 use crate::codes::{Condition, FlagChange, Operation, Rotation, Transfer};
 use crate::instruction::Instruction;
 
-// Bits 12 to 8.
+// Bits 12 to 8. Each field has a function: with const parameters its bits would stand at every call instead of here.
 fn rd_field(word: u32) -> u8
     ensures { result ≡ bits 12 8 word }
 {
@@ -38,6 +38,7 @@ fn offset_field(word: u32) -> i16
     if field < 2048 { field } else { field - 4096 }
 }
 
+// Each shape has a function, since the fields differ in name and type.
 fn register(word: u32) -> Instruction
     requires { RegisterPattern word × (word < 2 ^ 18) }
     ensures { Writes result word }
@@ -132,9 +133,10 @@ fn branch(word: u32) -> Instruction
     Instruction::Branch { offset }
 }
 
-// The one decision: opcode ranges, with guards for the low bits.
-pub(crate) fn decoded(word: u32) -> Option<Instruction>
-    ensures { MatchOption result (Defined word → ⊥) (λ i. Writes i word) }
+// The instruction that a word stands for, if any: opcode ranges, with guards for the low bits.
+#[tactic(auto, using(crate::proofs::Codec::writes_computed, crate::proofs::Codec::undefined_computed))]
+pub fn instruction_of(word: u32) -> Option<Instruction>
+    ensures { (result ≡ instruction_of word) × IfSome result (λ i. Valid i) }
 {
     match word {
         0x00000..=0x27FFF if (word >> 13) % 2 == 1 => Some(immediate(word)),
@@ -149,11 +151,4 @@ pub(crate) fn decoded(word: u32) -> Option<Instruction>
         0x3B000..=0x3BFFF => Some(branch(word)),
         _ => None,
     }
-}
-
-// The instruction that a word stands for, if any.
-pub fn instruction_of(word: u32) -> Option<Instruction>
-    ensures { (result ≡ instruction_of word) × IfSome result (λ i. Valid i) }
-{
-    decoded(word)
 }

@@ -9,17 +9,13 @@ fn offset_bits(offset: i16) -> u32
     requires { InOffsetRange offset }
     ensures { result ≡ offset_field offset }
 {
-    if offset < 0 {
-        (offset + 4096) as u32
-    } else {
-        offset as u32
-    }
+    offset.rem_euclid(4096) as u32
 }
 
 fn in_offset_range(offset: i16) -> bool
     ensures { Decides result (InOffsetRange offset) }
 {
-    -2048 <= offset && offset < 2048
+    (-2048..2048).contains(&offset)
 }
 
 // Two fields below 32 at bits 12 to 8 and 7 to 3.
@@ -27,7 +23,7 @@ fn registers(rd: u8, rb: u8) -> u32
     requires { (rd < 32) × (rb < 32) }
     ensures { result ≡ rd * 2 ^ 8 + rb * 2 ^ 3 }
 {
-    ((rd as u32) << 8) + ((rb as u32) << 3)
+    (u32::from(rd) << 8) + (u32::from(rb) << 3)
 }
 
 impl Instruction {
@@ -36,15 +32,16 @@ impl Instruction {
         ensures { Decides result (Valid self.now) }
     {
         match self {
-            Instruction::Register { rd, rb, .. } => *rd < 32 && *rb < 32,
+            Instruction::Register { rd, rb, .. }
+            | Instruction::Rotate { rd, rb, .. }
+            | Instruction::Indirect { rd, rb, .. } => *rd < 32 && *rb < 32,
+            // Every constant passes. Without the test the proof, tried, did not close: it knows no bound of the field.
             Instruction::Immediate { rd, constant, .. } => *rd < 32 && *constant <= u8::MAX,
-            Instruction::Rotate { rd, rb, .. } => *rd < 32 && *rb < 32,
             Instruction::Direct { rd, number, .. } => *rd < 32 && *number < 32,
-            Instruction::Indirect { rd, rb, .. } => *rd < 32 && *rb < 32,
-            Instruction::BranchIf { offset, .. } => in_offset_range(*offset),
-            Instruction::CallIf { offset, .. } => in_offset_range(*offset),
-            Instruction::Call { offset } => in_offset_range(*offset),
-            Instruction::Branch { offset } => in_offset_range(*offset),
+            Instruction::BranchIf { offset, .. }
+            | Instruction::CallIf { offset, .. }
+            | Instruction::Call { offset }
+            | Instruction::Branch { offset } => in_offset_range(*offset),
             Instruction::Flag { .. } | Instruction::Return | Instruction::ReturnFromInterrupt =>
                 true,
         }
@@ -56,30 +53,32 @@ impl Instruction {
         ensures { result ≡ word_of self.now }
     {
         match *self {
-            Instruction::Register { operation, rd, rb } => (operation.code() << 14)
+            Instruction::Register { operation, rd, rb } => ((operation as u32) << 14)
                 + registers(rd, rb),
             Instruction::Immediate {
                 operation,
                 rd,
                 constant,
-            } => { (operation.code() << 14) + 0x2000 + ((rd as u32) << 8) + constant as u32 }
+            } => {
+                ((operation as u32) << 14) + 0x2000 + (u32::from(rd) << 8) + u32::from(constant)
+            }
             Instruction::Rotate { rotation, rd, rb } => 0x28000
                 + registers(rd, rb)
-                + rotation.code(),
-            Instruction::Flag { change } => 0x2C000 + change.code(),
+                + rotation as u32,
+            Instruction::Flag { change } => 0x2C000 + change as u32,
             Instruction::Direct {
                 transfer,
                 rd,
                 number,
-            } => 0x2E000 + registers(rd, number) + transfer.code(),
+            } => 0x2E000 + registers(rd, number) + transfer as u32,
             Instruction::Indirect { transfer, rd, rb } => 0x2E002
                 + registers(rd, rb)
-                + transfer.code(),
+                + transfer as u32,
             Instruction::BranchIf { condition, offset } => 0x30000
-                + (condition.code() << 12)
+                + ((condition as u32) << 12)
                 + offset_bits(offset),
             Instruction::CallIf { condition, offset } => 0x34000
-                + (condition.code() << 12)
+                + ((condition as u32) << 12)
                 + offset_bits(offset),
             Instruction::Call { offset } => 0x38000 + offset_bits(offset),
             Instruction::Return => 0x39000,

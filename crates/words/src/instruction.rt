@@ -4,7 +4,7 @@ ghost use Rattle.words.specs.Codec.{Decodes, Encodes, OneInstructionEach, answer
 ghost use Rattle.words.specs.Decoding.{instruction_of};
 
 use crate::codes::{Condition, FlagChange, Operation, Rotation, Transfer};
-use crate::decoding::decoded;
+use crate::decoding::instruction_of;
 use refusals::Refusal;
 
 // An instruction and its fields: registers and direct numbers are below 32, offsets lie from -2048 to 2047 and count
@@ -64,15 +64,13 @@ pub enum Instruction {
 
 impl Instruction {
     // The instruction that a word stands for.
+    #[tactic(auto, using(crate::proofs::Codec::one_instruction_each, crate::proofs::Codec::computed_decodes))]
     pub fn decode(word: u32) -> Result<Instruction, Refusal>
         ensures answer { Decodes word result }
         ensures computed { result ≡ answer_of (instruction_of word) }
         ensures law { OneInstructionEach }
     {
-        match decoded(word) {
-            Some(instruction) => Ok(instruction),
-            None => Err(Refusal::UndefinedWord { pc: 0 }),
-        }
+        instruction_of(word).ok_or(Refusal::UndefinedWord { pc: 0 })
     }
 
     // The word that stands for an instruction.

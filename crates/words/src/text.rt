@@ -1,12 +1,12 @@
 // Instructions as the maker's guide writes them.
 ghost use Rattle.std.specs.Prelude.{◌≡◌, Some};
-ghost use Rattle.words.specs.Text.{register_mnemonic, immediate_mnemonic, rotation_mnemonic, flag_mnemonic, transfer_mnemonic, condition_suffix, register_name, text};
+ghost use Rattle.words.specs.Text.{register_mnemonic, immediate_mnemonic, rotation_mnemonic, flag_mnemonic, transfer_mnemonic, condition_suffix, text};
 
 use crate::codes::{Condition, FlagChange, Operation, Rotation, Transfer};
-use crate::hex::HexTwo;
 use crate::instruction::Instruction;
 use std::fmt;
 
+// An operation has two spellings, and the immediate one puts its `i` before the `c` of `subic`: so no `Display`.
 impl Operation {
     fn register_mnemonic(self) -> &'static str
         ensures { result.now ≡ register_mnemonic self }
@@ -43,74 +43,59 @@ impl Operation {
     }
 }
 
-impl Rotation {
-    fn mnemonic(self) -> &'static str
-        ensures { result.now ≡ rotation_mnemonic self }
-    {
-        match self {
+impl fmt::Display for Rotation {
+    ghost output = { λ r. Some (rotation_mnemonic r) };
+
+    fn fmt<W: fmt::Write>(&self, f: &mut fmt::Formatter<W>) -> fmt::Result {
+        f.write_str(match self {
             Rotation::Ror => "ror",
             Rotation::Rol => "rol",
             Rotation::Rorc => "rorc",
             Rotation::Rolc => "rolc",
-        }
+        })
     }
 }
 
-impl FlagChange {
-    fn mnemonic(self) -> &'static str
-        ensures { result.now ≡ flag_mnemonic self }
-    {
-        match self {
+impl fmt::Display for FlagChange {
+    ghost output = { λ c. Some (flag_mnemonic c) };
+
+    fn fmt<W: fmt::Write>(&self, f: &mut fmt::Formatter<W>) -> fmt::Result {
+        f.write_str(match self {
             FlagChange::Clrc => "clrc",
             FlagChange::Setc => "setc",
             FlagChange::Clrz => "clrz",
             FlagChange::Setz => "setz",
             FlagChange::Clri => "clri",
             FlagChange::Seti => "seti",
-        }
+        })
     }
 }
 
-impl Transfer {
-    fn mnemonic(self) -> &'static str
-        ensures { result.now ≡ transfer_mnemonic self }
-    {
-        match self {
+// The direct form; the indirect one adds an `i`.
+impl fmt::Display for Transfer {
+    ghost output = { λ t. Some (transfer_mnemonic t) };
+
+    fn fmt<W: fmt::Write>(&self, f: &mut fmt::Formatter<W>) -> fmt::Result {
+        f.write_str(match self {
             Transfer::Export => "export",
             Transfer::Import => "import",
             Transfer::Store => "ssp",
             Transfer::Load => "lsp",
-        }
+        })
     }
 }
 
-impl Condition {
-    fn suffix(self) -> &'static str
-        ensures { result.now ≡ condition_suffix self }
-    {
-        match self {
+// What follows the `b` or the `call` of a conditional word.
+impl fmt::Display for Condition {
+    ghost output = { λ c. Some (condition_suffix c) };
+
+    fn fmt<W: fmt::Write>(&self, f: &mut fmt::Formatter<W>) -> fmt::Result {
+        f.write_str(match self {
             Condition::Zero => "z",
             Condition::NotZero => "nz",
             Condition::Carry => "c",
             Condition::NotCarry => "nc",
-        }
-    }
-}
-
-// The name of a register, as `R07`.
-#[derive(Clone, Copy)]
-struct RegisterName(u8);
-
-impl fmt::Display for RegisterName {
-    ghost output = { λ r. Some (register_name r.0) };
-
-    fn fmt<W: fmt::Write>(&self, f: &mut fmt::Formatter<W>) -> fmt::Result {
-        let number = self.0;
-        if number < 10 {
-            write!(f, "R0{number}")
-        } else {
-            write!(f, "R{number}")
-        }
+        })
     }
 }
 
@@ -120,69 +105,29 @@ impl fmt::Display for Instruction {
     fn fmt<W: fmt::Write>(&self, f: &mut fmt::Formatter<W>) -> fmt::Result {
         match *self {
             Instruction::Register { operation, rd, rb } => {
-                write!(
-                    f,
-                    "{} {},{}",
-                    operation.register_mnemonic(),
-                    RegisterName(rd),
-                    RegisterName(rb)
-                )
+                let mnemonic = operation.register_mnemonic();
+                write!(f, "{mnemonic} R{rd:02},R{rb:02}")
             }
             Instruction::Immediate {
                 operation,
                 rd,
                 constant,
             } => {
-                write!(
-                    f,
-                    "{} {},0x{}",
-                    operation.immediate_mnemonic(),
-                    RegisterName(rd),
-                    HexTwo(constant as usize)
-                )
+                let mnemonic = operation.immediate_mnemonic();
+                write!(f, "{mnemonic} R{rd:02},0x{constant:02X}")
             }
-            Instruction::Rotate { rotation, rd, rb } => {
-                write!(
-                    f,
-                    "{} {},{}",
-                    rotation.mnemonic(),
-                    RegisterName(rd),
-                    RegisterName(rb)
-                )
-            }
-            Instruction::Flag { change } => write!(f, "{}", change.mnemonic()),
+            Instruction::Rotate { rotation, rd, rb } => write!(f, "{rotation} R{rd:02},R{rb:02}"),
+            Instruction::Flag { change } => write!(f, "{change}"),
             Instruction::Direct {
                 transfer,
                 rd,
                 number,
-            } => {
-                write!(
-                    f,
-                    "{} {},0x{}",
-                    transfer.mnemonic(),
-                    RegisterName(rd),
-                    HexTwo(number as usize)
-                )
-            }
+            } => write!(f, "{transfer} R{rd:02},0x{number:02X}"),
             Instruction::Indirect { transfer, rd, rb } => {
-                write!(
-                    f,
-                    "{}i {},{}",
-                    transfer.mnemonic(),
-                    RegisterName(rd),
-                    RegisterName(rb)
-                )
+                write!(f, "{transfer}i R{rd:02},R{rb:02}")
             }
-            Instruction::BranchIf { condition, offset } => write!(
-                f,
-                "b{} {offset}",
-                condition.suffix()
-            ),
-            Instruction::CallIf { condition, offset } => write!(
-                f,
-                "call{} {offset}",
-                condition.suffix()
-            ),
+            Instruction::BranchIf { condition, offset } => write!(f, "b{condition} {offset}"),
+            Instruction::CallIf { condition, offset } => write!(f, "call{condition} {offset}"),
             Instruction::Call { offset } => write!(f, "call {offset}"),
             Instruction::Return => write!(f, "ret"),
             Instruction::ReturnFromInterrupt => write!(f, "iret"),

@@ -1,5 +1,5 @@
 // One word of the program.
-ghost use Rattle.std.specs.Prelude.{◌≡◌, ◌<◌, false};
+ghost use Rattle.std.specs.Prelude.{◌≡◌, ◌<◌};
 ghost use Rattle.words.specs.declared.codes.Transfer.TheVariants.{Export, Import, Store, Load};
 ghost use Rattle.words.specs.Encoding.{Valid};
 ghost use Rattle.memories.specs.Meaning.{Meaning};
@@ -13,80 +13,71 @@ use refusals::Refusal;
 use words::codes::Transfer;
 use words::instruction::Instruction;
 
-const PLAIN: Stepped = Stepped {
-    cycles: 2,
-    export: None,
-};
-
-const TRANSFER: Stepped = Stepped {
-    cycles: 3,
-    export: None,
-};
-
 impl Board {
-    fn export(&mut self, words: usize, room: bool, rd: u8, offset: u8) -> Result<Stepped, Refusal>
-        requires { (self.old.pc < 4096) × (rd < 32) }
-        ensures { (memory : Meaning) → Steps (transferred Export words room 0 rd offset (core_of self.old) memory) (core_of self.old) memory result (core_of self.new) memory }
+    fn export(&mut self, at: Moment, rd: u8, offset: u8) -> Result<Stepped, Refusal>
+        requires { rd < 32 }
+        ensures { (memory : Meaning) → Steps (transferred Export at.words at.room at.tick rd offset (core_of self.old) memory) (core_of self.old) memory result (core_of self.new) memory }
     {
-        let next = self.after(words)?;
-        if !room {
+        let next = self.after(at)?;
+        if !at.room {
             return Err(Refusal::ExportsFull { pc: self.pc });
         }
-        let port = u32::from(self.page()) * 256 + u32::from(offset);
-        let export = Some(port * 256 + u32::from(self.register(rd)));
+        let bytes = [
+            self.register(15),
+            self.register(14),
+            offset,
+            self.register(rd),
+        ];
+        let export = Some(u32::from_be_bytes(bytes));
         self.pc = next;
         Ok(Stepped { cycles: 3, export })
     }
 
-    fn import(&mut self, words: usize, tick: u16, rd: u8) -> Result<Stepped, Refusal>
-        requires { (self.old.pc < 4096) × (rd < 32) }
-        ensures { (memory : Meaning) → Steps (transferred Import words false tick rd 0 (core_of self.old) memory) (core_of self.old) memory result (core_of self.new) memory }
+    fn import(&mut self, at: Moment, rd: u8) -> Result<Stepped, Refusal>
+        requires { rd < 32 }
+        ensures { (memory : Meaning) → Steps (transferred Import at.words at.room at.tick rd 0 (core_of self.old) memory) (core_of self.old) memory result (core_of self.new) memory }
     {
-        self.pass(words)?;
-        self.set_register(rd, (tick % 256) as u8);
-        Ok(TRANSFER)
+        self.pass(at)?;
+        self.set_register(rd, (at.tick % 256) as u8);
+        Ok(Stepped::TRANSFER)
     }
 
     fn store<M: Memory>(
         &mut self,
-        words: usize,
+        at: Moment,
         rd: u8,
         offset: u8,
         memory: &mut M,
     ) -> Result<Stepped, Refusal>
-        requires { (self.old.pc < 4096) × (rd < 32) }
-        ensures step { Steps (transferred Store words false 0 rd offset (core_of self.old) (M.meaning memory.old)) (core_of self.old) (M.meaning memory.old) result (core_of self.new) (M.meaning memory.new) }
+        requires { rd < 32 }
+        ensures step { Steps (transferred Store at.words at.room at.tick rd offset (core_of self.old) (M.meaning memory.old)) (core_of self.old) (M.meaning memory.old) result (core_of self.new) (M.meaning memory.new) }
         ensures rest { M.frame memory.new ≡ M.frame memory.old }
     {
-        let next = self.after(words)?;
-        match memory.poke(self.page(), offset, self.register(rd)) {
-            Ok(()) => {
-                self.pc = next;
-                Ok(TRANSFER)
-            }
-            Err(_) => Err(Refusal::MissingPage { pc: self.pc }),
-        }
+        let next = self.after(at)?;
+        memory
+            .poke(self.page(), offset, self.register(rd))
+            .map_err(|_| Refusal::MissingPage { pc: self.pc })?;
+        self.pc = next;
+        Ok(Stepped::TRANSFER)
     }
 
     fn load<M: Memory>(
         &mut self,
-        words: usize,
+        at: Moment,
         rd: u8,
         offset: u8,
         memory: &M,
     ) -> Result<Stepped, Refusal>
-        requires { (self.old.pc < 4096) × (rd < 32) }
-        ensures { Steps (transferred Load words false 0 rd offset (core_of self.old) (M.meaning memory.now)) (core_of self.old) (M.meaning memory.now) result (core_of self.new) (M.meaning memory.now) }
+        requires { rd < 32 }
+        ensures { Steps (transferred Load at.words at.room at.tick rd offset (core_of self.old) (M.meaning memory.now)) (core_of self.old) (M.meaning memory.now) result (core_of self.new) (M.meaning memory.now) }
     {
-        let next = self.after(words)?;
-        match memory.peek(self.page(), offset) {
-            Ok(byte) => {
-                self.set_register(rd, byte);
-                self.pc = next;
-                Ok(TRANSFER)
-            }
-            Err(_) => Err(Refusal::MissingPage { pc: self.pc }),
-        }
+        let next = self.after(at)?;
+        let byte = memory
+            .peek(self.page(), offset)
+            .map_err(|_| Refusal::MissingPage { pc: self.pc })?;
+        self.set_register(rd, byte);
+        self.pc = next;
+        Ok(Stepped::TRANSFER)
     }
 
     // Between Rd and a port or a cell of the page.
@@ -98,26 +89,26 @@ impl Board {
         at: Moment,
         memory: &mut M,
     ) -> Result<Stepped, Refusal>
-        requires { (self.old.pc < 4096) × (rd < 32) }
+        requires { rd < 32 }
         ensures step { Steps (transferred transfer at.words at.room at.tick rd offset (core_of self.old) (M.meaning memory.old)) (core_of self.old) (M.meaning memory.old) result (core_of self.new) (M.meaning memory.new) }
         ensures rest { M.frame memory.new ≡ M.frame memory.old }
     {
         match transfer {
-            Transfer::Export => self.export(at.words, at.room, rd, offset),
-            Transfer::Import => self.import(at.words, at.tick, rd),
-            Transfer::Store => self.store(at.words, rd, offset, memory),
-            Transfer::Load => self.load(at.words, rd, offset, memory),
+            Transfer::Export => self.export(at, rd, offset),
+            Transfer::Import => self.import(at, rd),
+            Transfer::Store => self.store(at, rd, offset, memory),
+            Transfer::Load => self.load(at, rd, offset, memory),
         }
     }
 
     // A word that reaches neither a port nor the memory.
     fn execute_plain(&mut self, instruction: Instruction, at: Moment) -> Result<Stepped, Refusal>
-        requires { (self.old.pc < 4096) × Valid instruction × Plain instruction }
+        requires { Valid instruction × Plain instruction }
         ensures { (memory : Meaning) → Steps (execute instruction at.words at.room at.tick (core_of self.old) memory) (core_of self.old) memory result (core_of self.new) memory }
     {
         match instruction {
             Instruction::Register { operation, rd, rb } => {
-                self.pass(at.words)?;
+                self.pass(at)?;
                 self.operate(operation, rd, self.register(rb));
             }
             Instruction::Immediate {
@@ -125,30 +116,30 @@ impl Board {
                 rd,
                 constant,
             } => {
-                self.pass(at.words)?;
+                self.pass(at)?;
                 self.operate(operation, rd, constant);
             }
             Instruction::Rotate { rotation, rd, rb } => {
-                self.pass(at.words)?;
+                self.pass(at)?;
                 self.turn(rotation, rd, rb);
             }
             Instruction::Flag { change } => {
-                self.pass(at.words)?;
+                self.pass(at)?;
                 self.change_flag(change);
             }
             Instruction::BranchIf { condition, offset } if self.holds(condition) => self.jump(
-                at.words, offset,
+                at, offset,
             )?,
             Instruction::CallIf { condition, offset } if self.holds(condition) => self.call(
-                at.words, offset,
+                at, offset,
             )?,
-            Instruction::Branch { offset } => self.jump(at.words, offset)?,
-            Instruction::Call { offset } => self.call(at.words, offset)?,
-            Instruction::Return => self.return_from_call(at.words)?,
-            Instruction::ReturnFromInterrupt => self.return_from_interrupt(at.words)?,
-            _ => self.pass(at.words)?,
+            Instruction::Branch { offset } => self.jump(at, offset)?,
+            Instruction::Call { offset } => self.call(at, offset)?,
+            Instruction::Return => self.return_from_call(at)?,
+            Instruction::ReturnFromInterrupt => self.return_from_interrupt(at)?,
+            _ => self.pass(at)?,
         }
-        Ok(PLAIN)
+        Ok(Stepped::PLAIN)
     }
 
     pub(crate) fn execute<M: Memory>(
@@ -157,7 +148,7 @@ impl Board {
         at: Moment,
         memory: &mut M,
     ) -> Result<Stepped, Refusal>
-        requires { (self.old.pc < 4096) × Valid instruction }
+        requires { Valid instruction }
         ensures step { Steps (execute instruction at.words at.room at.tick (core_of self.old) (M.meaning memory.old)) (core_of self.old) (M.meaning memory.old) result (core_of self.new) (M.meaning memory.new) }
         ensures rest { M.frame memory.new ≡ M.frame memory.old }
     {

@@ -14,27 +14,21 @@ struct Outcome {
 }
 
 fn plus(a: u8, b: u8, carry: bool) -> Outcome
-    ensures { (result.value ≡ (sum a (b + bit carry)).value) × (result.carry ≡ (sum a (b + bit carry)).carry) }
+    ensures { result ≡ sum a (b + bit carry) }
 {
-    let total = u16::from(a) + u16::from(b) + u16::from(carry);
-    Outcome {
-        value: (total % 256) as u8,
-        carry: total >= 256,
-    }
+    let (value, carry) = a.carrying_add(b, carry);
+    Outcome { value, carry }
 }
 
 fn minus(a: u8, b: u8, carry: bool) -> Outcome
-    ensures { (result.value ≡ (difference a (b + bit carry)).value) × (result.carry ≡ (difference a (b + bit carry)).carry) }
+    ensures { result ≡ difference a (b + bit carry) }
 {
-    let less = u16::from(b) + u16::from(carry);
-    Outcome {
-        value: ((u16::from(a) + 512 - less) % 256) as u8,
-        carry: u16::from(a) < less,
-    }
+    let (value, carry) = a.borrowing_sub(b, carry);
+    Outcome { value, carry }
 }
 
 fn compute(operation: Operation, carry: bool, a: u8, b: u8) -> Outcome
-    ensures { (result.value ≡ (computed operation carry a b).value) × (result.carry ≡ (computed operation carry a b).carry) }
+    ensures { result ≡ computed operation carry a b }
 {
     match operation {
         Operation::Sub | Operation::Cmp => minus(a, b, false),
@@ -57,16 +51,17 @@ fn compute(operation: Operation, carry: bool, a: u8, b: u8) -> Outcome
     }
 }
 
+#[tactic(auto, using(crate::proofs::Rotations::turned_right, crate::proofs::Rotations::turned_left))]
 fn rotate(rotation: Rotation, carry: bool, b: u8) -> Outcome
-    ensures { (result.value ≡ (rotated rotation carry b).value) × (result.carry ≡ (rotated rotation carry b).carry) }
+    ensures { result ≡ rotated rotation carry b }
 {
     match rotation {
         Rotation::Ror => Outcome {
-            value: 128 * (b % 2) + b / 2,
+            value: b.rotate_right(1),
             carry,
         },
         Rotation::Rol => Outcome {
-            value: (b % 128) * 2 + b / 128,
+            value: b.rotate_left(1),
             carry,
         },
         Rotation::Rorc => Outcome {

@@ -1,7 +1,7 @@
 // The board's parts: reading and changing one of them.
 ghost use Rattle.std.specs.Prelude.{◌≡◌, ◌<◌};
 ghost use Rattle.machine.specs.Views.{Views};
-ghost use Rattle.machine.specs.Cores.{core_of, fresh, register, page_of, with_register, with_flags, at};
+ghost use Rattle.machine.specs.Cores.{core_of, fresh, register, page_of, with_register, with_flags};
 
 use crate::board::{Board, BoardView};
 use crate::stack::Stack;
@@ -43,25 +43,27 @@ impl Board {
         }
     }
 
+    // That a number is below 32 stays a demand, with no type for it: an `Instruction` has to hold any number for
+    // `encode` to refuse, so that each of its fields would be tested again.
     pub(crate) fn register(&self, number: u8) -> u8
         requires { number < 32 }
         ensures { result ≡ register (core_of self.now) number }
     {
-        self.registers[number as usize]
+        self.registers[usize::from(number)]
     }
 
     // The page that transfers reach.
     pub(crate) fn page(&self) -> u16
         ensures { result ≡ page_of (core_of self.now) }
     {
-        256 * u16::from(self.register(15)) + u16::from(self.register(14))
+        u16::from_be_bytes([self.register(15), self.register(14)])
     }
 
     pub(crate) fn set_register(&mut self, number: u8, value: u8)
         requires { number < 32 }
         ensures { core_of self.new ≡ with_register number value (core_of self.old) }
     {
-        self.registers[number as usize] = value;
+        self.registers[usize::from(number)] = value;
     }
 
     pub(crate) fn set_flags(&mut self, carry: bool, zero: bool)

@@ -1,5 +1,5 @@
 // The calls that step and run a program.
-ghost use Rattle.std.specs.Prelude.{◌≡◌, ◌<◌, ◌≤◌, length, Some, None, MatchOption};
+ghost use Rattle.std.specs.Prelude.{◌≡◌, ◌<◌, ◌≤◌, length, Some, None, MatchResult};
 ghost use Rattle.machine.specs.Cores.{core_of};
 ghost use Rattle.machine.specs.Counting.{Holds, Counts};
 ghost use Rattle.machine.specs.Examples.{WorkedExamples};
@@ -12,10 +12,11 @@ use crate::report::RunReport;
 use crate::step::Stepped;
 use memories::memory::Memory;
 use refusals::Refusal;
+use words::fits_device;
 
 const MOST_TICKS: usize = 65_536;
 
-// The place of the first tick that is not below 512.
+// The place of the first tick that is not below 512. A rule of the project names a loop over the elements here.
 fn first_large(ticks: &[u16]) -> Option<usize>
     ensures { result ≡ first_large 0 ticks.now }
 {
@@ -27,19 +28,20 @@ fn first_large(ticks: &[u16]) -> Option<usize>
     None
 }
 
-// Why a run does not start.
-fn hindrance(image: &[u32], ticks: &[u16]) -> Option<Refusal>
-    ensures { result ≡ hindered image.now ticks.now }
+// Whether a run may start, or why not.
+fn check(image: &[u32], ticks: &[u16]) -> Result<(), Refusal>
+    ensures { MatchResult result (λ _. hindered image.now ticks.now ≡ None) (λ refusal. hindered image.now ticks.now ≡ Some refusal) }
 {
-    if image.len() < 2 || image.len() > 4096 {
-        return Some(Refusal::ImageLength);
+    if !fits_device(image) {
+        return Err(Refusal::ImageLength);
     }
     if ticks.len() > MOST_TICKS {
-        return Some(Refusal::TooManyTicks);
+        return Err(Refusal::TooManyTicks);
     }
+    // By cases: `map_or(Ok(()), ..)` would put the refusal behind a closure.
     match first_large(ticks) {
-        Some(place) => Some(Refusal::TickTooLarge { place }),
-        None => None,
+        Some(place) => Err(Refusal::TickTooLarge { place }),
+        None => Ok(()),
     }
 }
 
@@ -48,10 +50,7 @@ impl RunReport {
     pub fn stop_number(&self) -> u8
         ensures { result ≡ stop_number self.now.stop }
     {
-        match self.stop {
-            None => 0,
-            Some(refusal) => refusal.number(),
-        }
+        self.stop.map_or(0, |refusal| refusal.number())
     }
 
     // One step more, its export into the given list.
@@ -102,23 +101,8 @@ impl Board {
         report
     }
 
-    fn run_or_refuse<M: Memory>(
-        &mut self,
-        image: &[u32],
-        ticks: &[u16],
-        memory: &mut M,
-        exports: &mut [u32],
-    ) -> Result<RunReport, Refusal>
-        ensures run { Runs image.now ticks.now (core_of self.old) (M.meaning memory.old) exports.old result (core_of self.new) (M.meaning memory.new) exports.new }
-        ensures rest { M.frame memory.new ≡ M.frame memory.old }
-    {
-        if let Some(refusal) = hindrance(image, ticks) {
-            return Err(refusal);
-        }
-        Ok(self.run_ticks(image, ticks, memory, exports))
-    }
-
     // Spends the ticks one after another, until one stops.
+    #[tactic(auto, using(crate::proofs::Laws::machine_laws))]
     pub fn run<M: Memory>(
         &mut self,
         image: &[u32],
@@ -131,7 +115,8 @@ impl Board {
         ensures laws { MachineLaws }
         ensures examples { WorkedExamples }
     {
-        self.run_or_refuse(image, ticks, memory, exports)
+        check(image, ticks)?;
+        Ok(self.run_ticks(image, ticks, memory, exports))
     }
 
     // One step: the word at pc, or an interrupt entry.
@@ -144,9 +129,7 @@ impl Board {
         ensures step { Steps (lone image.now tick (core_of self.old) (M.meaning memory.old)) (core_of self.old) (M.meaning memory.old) result (core_of self.new) (M.meaning memory.new) }
         ensures rest { M.frame memory.new ≡ M.frame memory.old }
     {
-        if let Some(refusal) = hindrance(image, &[tick]) {
-            return Err(refusal);
-        }
+        check(image, &[tick])?;
         self.advance(image, true, tick, memory)
     }
 }

@@ -1,7 +1,5 @@
 // One step.
-ghost use Rattle.std.specs.Prelude.{◌≡◌, ◌≤◌, true, length, IfSome};
-ghost use Rattle.words.specs.Decoding.{instruction_of};
-ghost use Rattle.words.specs.Encoding.{Valid};
+ghost use Rattle.std.specs.Prelude.{◌≡◌, ◌≤◌, length};
 ghost use Rattle.machine.specs.Cores.{core_of};
 ghost use Rattle.machine.specs.Moves.{interrupts};
 ghost use Rattle.machine.specs.Steps.{Steps, step};
@@ -10,22 +8,7 @@ use crate::board::Board;
 use crate::step::{Moment, Stepped};
 use memories::memory::Memory;
 use refusals::Refusal;
-use words::instruction::Instruction;
-
-const ENTRY: Stepped = Stepped {
-    cycles: 2,
-    export: None,
-};
-
-// The instruction that a word stands for.
-fn instruction(word: u32) -> Option<Instruction>
-    ensures { (result ≡ instruction_of word) × IfSome result (λ i. Valid i) }
-{
-    match Instruction::decode(word) {
-        Ok(instruction) => Some(instruction),
-        Err(_) => None,
-    }
-}
+use words::decoding::instruction_of;
 
 impl Board {
     // Whether this tick brings an interrupt in.
@@ -35,7 +18,8 @@ impl Board {
         tick >= 256 && self.enabled && !self.in_service
     }
 
-    // The word at pc, or an interrupt entry; `room` says whether the export list has room.
+    // The word at pc, or an interrupt entry; `room` says whether the export list has room. The image is a lent slice, so
+    // its length is asked for here, where the moment is made of it.
     pub(crate) fn advance<M: Memory>(
         &mut self,
         image: &[u32],
@@ -52,9 +36,9 @@ impl Board {
         }
         if self.interrupts(tick) {
             self.enter()?;
-            return Ok(ENTRY);
+            return Ok(Stepped::PLAIN);
         }
-        let Some(instruction) = instruction(image[self.pc]) else {
+        let Some(instruction) = instruction_of(image[self.pc]) else {
             return Err(Refusal::UndefinedWord { pc: self.pc });
         };
         let at = Moment {

@@ -5,5 +5,5 @@ use Rattle.calls.proofs.performing.perform_all.Given as goal
 
 abbrev pub invariant-loop-place : goal.invariant-loop-place
 invariant-loop-place g l =
-    PerformsAll l.image (calls_of (length l.initial.exports) (take l.place l.calls)) (state_of l.initial.board (g.M.Memory.meaning l.initial.memory)) l.initial.exports l.initial.answers (state_of l.board (g.M.Memory.meaning l.memory)) l.exports l.answers
+    PerformsAll l.image (calls_of (length l.initial.exports) (take l.place l.first)) (state_of l.initial.board (g.M.Memory.meaning l.initial.memory)) l.initial.exports l.initial.answers (state_of l.board (g.M.Memory.meaning l.memory)) l.exports l.answers
     × (g.M.Memory.frame l.memory ≡ g.M.Memory.frame l.initial.memory)

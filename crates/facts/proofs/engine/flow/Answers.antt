@@ -1,12 +1,14 @@
-use Rattle.std.proofs.Common.{rules}
-use Rattle.facts.proofs.Settling.{smallest_settled}
+use Rattle.std.proofs.Common.{◌∙◌, rules}
+use Rattle.facts.proofs.Settling.{smallest_left, value_left}
 use Rattle.facts.proofs.engine.flow.Goals as goal
-
-pub settle-requires : goal.settle-requires
-settle-requires g c = record { level = c.begin.ensures.level; settled = c.begin.ensures.settled }
 
 pub returns : goal.returns
 returns g c =
-    let begun = c.begin.ensures in
-    let settled = c.settle.ensures in
-    record { smallest = search (rules, smallest_settled g.met.F.Fact.laws); value = settled.value }
+    let laws = g.met.F.Fact.laws in
+    let loan = c.settle.ensures.keeps.loan ∙ c.begin.ensures.keeps.loan in
+    let settles = rw c.begin.ensures.keeps.image at c.settle.ensures.settles in
+    let begun = c.begin.ensures.begins in
+    record {
+      smallest = smallest_left laws c.args.image.now settles (search rules) {flags = c.begin.new.self.dirty.now} (search rules);
+      value = value_left laws c.args.image.now settles (search rules);
+    }

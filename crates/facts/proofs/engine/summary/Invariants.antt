@@ -1,6 +1,6 @@
-use Rattle.std.proofs.Common.{◌≡◌, drop}
+use Rattle.std.proofs.Common.{◌≡◌, length, take}
 use Rattle.facts.specs.Tables.{summary}
 use Rattle.facts.proofs.engine.summary.Given as goal
 
-abbrev pub invariant-loop-at : goal.invariant-loop-at
-invariant-loop-at g l = l.joined ≡ summary g.F.Fact.kind (drop l.at l.image) (drop l.at l.table)
+abbrev pub invariant-loop-word : goal.invariant-loop-word
+invariant-loop-word g l = l.joined ≡ summary g.F.Fact.kind (take (length l.yielded) l.image) l.table

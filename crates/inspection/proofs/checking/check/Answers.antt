@@ -1,11 +1,10 @@
-use Rattle.std.proofs.Common.{⊎_elim, arith}
+use Rattle.std.proofs.Common.{⊎_elim, arith, rules}
 use Rattle.std.proofs.lemmas.Result.{err_from_is_err_and}
 use Rattle.inspection.specs.Obstacles.{length_of_image, word_too_large, pages_of_nobody, few_rows}
 use Rattle.inspection.proofs.checking.check.Goals as goal
 
-pub returns-then-image-lt2 : goal.returns-then-image-lt2
-returns-then-image-lt2 c =
-    length_of_image (λ fits. ⊎_elim (λ h. omega (arith, fits.0)) (λ h. omega (arith, fits.1, h.1)) c.then-image-lt2.either)
+pub returns-then-not-fits_device : goal.returns-then-not-fits_device
+returns-then-not-fits_device c = length_of_image (λ fits. search rules)
 
 pub returns-in_err-check_words : goal.returns-in_err-check_words
 returns-in_err-check_words c =

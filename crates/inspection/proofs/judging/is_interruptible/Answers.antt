@@ -1,16 +1,13 @@
-use Rattle.std.proofs.Common.{◌+◌, ◌||◌, drop, sym, ap, ◌∙◌, arith}
-use Rattle.std.proofs.lemmas.List.{at_drop_more, at_drop_all}
-use Rattle.std.proofs.lemmas.Bool.{or_left}
-use Rattle.ledger.specs.Interrupts.{interruptible}
+use Rattle.std.proofs.Common.{◌||◌, refl, ◌∙◌, rules, tests}
+use Rattle.std.proofs.lemmas.Iterator.{YieldsList-from_slice}
+use Rattle.std.proofs.lemmas.Iterator.Search.{any_from_yields_List}
+use Rattle.std.proofs.lemmas.List.Recursion.{same_from_clauses}
+use Rattle.std.specs.List.{list_any}
+use Rattle.words.specs.Decoding.{instruction_of}
+use Rattle.ledger.specs.Interrupts.{word_enables, interruptible}
 use Rattle.inspection.proofs.judging.is_interruptible.Goals as goal
 
-pub returns-then-enables_interrupts : goal.returns-then-enables_interrupts
-returns-then-enables_interrupts c =
-    sym (c.loop-word.invariant ∙ at_drop_more interruptible c.args.image.now c.loop-word.word-index 0 (omega arith) ∙ or_left _ _ (sym c.if-enables_interrupts.ensures))
-
-pub loop-word-preserved : goal.loop-word-preserved
-loop-word-preserved c =
-    c.loop-word.invariant ∙ at_drop_more interruptible c.args.image.now c.loop-word.word-index 0 (omega arith) ∙ ap (λ b. b || interruptible (drop (c.loop-word.word-index + 1) c.args.image.now)) (sym c.if-enables_interrupts.ensures)
-
 pub returns : goal.returns
-returns c = sym (c.loop-word.invariant ∙ at_drop_all interruptible c.args.image.now c.loop-word.word-index (omega arith))
+returns c =
+    any_from_yields_List (λ word. word_enables (instruction_of word)) _ _ _ c.any.ensures.ran (YieldsList-from_slice c.args.image.now cc) (λ x b q k. search (rules, tests))
+    ∙ same_from_clauses (list_any (λ word. word_enables (instruction_of word))) interruptible (λ word rest. word_enables (instruction_of word) || rest) refl (λ _ _. refl) (λ _ _. refl) c.args.image.now

@@ -1,8 +1,13 @@
-use Rattle.std.proofs.Common.{replicate, subst}
-use Rattle.ledger.specs.declared.row.Row.{Row}
-use Rattle.reports.specs.Carrying.{Judged}
+use Rattle.std.proofs.Common.{rules}
+use Rattle.reports.proofs.Verdicts.{depth_told}
 use Rattle.reports.proofs.carrying.judge.Goals as goal
 
 pub returns : goal.returns
 returns c =
-    subst (λ (row : Row). Judged c.args.words.now c.args.owned (replicate 4096 row) c.judge_with.result) c.blank-blank.ensures c.judge_with.ensures
+    let inspected = rw c.blank-rows.ensures at c.inspect.ensures.answer in
+    record {
+      answer = c.inspect.result;
+      after = c.inspect.new.rows;
+      inspected = search rules;
+      told = depth_told (λ passed r told. search rules) c.inspect.result c.map.result c.map.ensures.cases;
+    }

@@ -1,6 +1,0 @@
-use Rattle.std.proofs.Common.{rules}
-use Rattle.facts.specs.Intervals.{same_interval}
-use Rattle.facts.proofs.interval.Interval.up_to.Goals as goal
-
-pub returns : goal.returns
-returns c = search (rules, same_interval)

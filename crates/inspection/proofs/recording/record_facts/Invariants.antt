@@ -1,7 +1,0 @@
-use Rattle.std.proofs.Common.{◌≡◌, ℕ, ◌<◌, get_or}
-use Rattle.ledger.specs.Rows.{blank_row}
-use Rattle.inspection.specs.Recording.{row_in}
-use Rattle.inspection.proofs.recording.record_facts.Given as goal
-
-abbrev pub invariant-loop-at : goal.invariant-loop-at
-invariant-loop-at l = (k : ℕ) → k < l.at → get_or l.rows k blank_row ≡ row_in l.mains l.handlers l.spans l.needs k
