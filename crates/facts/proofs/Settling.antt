@@ -50,6 +50,19 @@ folded_empty k first last [] folds bottom a = refl
 folded_empty k first last (x ∷ table) folds bottom zero = bottom _ x _ folds.1
 folded_empty k first last (x ∷ table) folds bottom (suc a) = folded_empty k _ last table folds.2 bottom a
 
+pub folded_bottom :
+    {F P : Type 0} {R : P → F → P → Type 0} (k : Kind F) (first last : P) (table : List F)
+    → FoldsTo R first table last
+    → ((p : P) (x : F) (q : P) → R p x q → x ≡ k.bottom)
+    → (a : ℕ)
+    → fact_at k table a ≡ k.bottom
+unfolding Empty
+folded_bottom k first last table folds bottom = folded_empty k first last table folds bottom
+
+pub empty_of : {F : Type 0} (k : Kind F) (table : List F) → ((a : ℕ) → fact_at k table a ≡ k.bottom) → Empty k table
+unfolding Empty
+empty_of k table each = each
+
 pub filled_level :
     {F : Type 0} {image : List ℕ} {old table : List F} {flags : List Bool}
     → Level image old flags

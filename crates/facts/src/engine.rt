@@ -1,10 +1,10 @@
 // The smallest facts that flow through an image from a start. It knows a kind of fact by its laws alone.
-ghost use Rattle.std.specs.Prelude.{◌≡◌, ◌<◌, ◌≤◌, false, length, drop, slice_set};
+ghost use Rattle.std.specs.Prelude.{◌≡◌, ℕ, ◌<◌, ◌≤◌, false, length, drop, slice_set};
 ghost use Rattle.std.specs.Iterator.{IsFinite};
 ghost use Rattle.facts.specs.Keeping.{Keeps, FlowRaises, FlowSpreads, FlowSettled, FlowVisits};
 ghost use Rattle.facts.specs.Orders.{GivesBelow, GivesEach};
 ghost use Rattle.facts.specs.Progress.{AddressBelow, SuccessorsBelow, CoversAt, Receives, NoneBelow, Begins, Settles, Level};
-ghost use Rattle.facts.specs.Tables.{Smallest, summary};
+ghost use Rattle.facts.specs.Tables.{Smallest, fact_at, summary};
 ghost use Rattle.facts.specs.Theorems.{SmallestLaws};
 
 use crate::fact::Fact;
@@ -130,11 +130,20 @@ impl<F: Fact> Flow<'_, '_, '_, F> {
         ensures begins { Begins F.kind self.old.image.now start given self.new.table.now self.new.dirty.now }
         ensures keeps { Keeps self.old self.new }
     {
-        self.table.fill_with(|| F::bottom());
+        clear(self.table);
         if start < self.image.len() {
             self.raise(Some(start), given);
         }
     }
+}
+
+// No fact at any address. A function of its own, so that its contract alone says what that leaves.
+#[tactic(auto, using(crate::proofs::Settling::folded_bottom))]
+fn clear<F: Fact>(table: &mut [F])
+    ensures long { length table.new ≡ length table.old }
+    ensures empty { (a : ℕ) → fact_at F.kind table.new a ≡ F.kind.bottom }
+{
+    table.fill_with(|| F::bottom());
 }
 
 // The join of the facts at the named words.

@@ -5,9 +5,9 @@ pub use Rattle.words.specs.Codec.{Writes, Decodes, Encodes, OneInstructionEach, 
 pub use Rattle.words.specs.Decoding.{instruction_of}
 pub use Rattle.words.specs.Encoding.{Valid, word_of}
 pub use Rattle.words.specs.Patterns.{Defined}
-pub use Rattle.words.specs.Text.{text}
+pub use Rattle.words.specs.Text.{text, rotation_mnemonic, flag_mnemonic, transfer_mnemonic, condition_suffix}
 pub use Rattle.jobs.specs.Jobs.{Reading, accepted, refused, Means, Answers, Starved, written_job, Storable, ReadingLaws}
-pub use Rattle.jobs.specs.Listing.{Lines, Lists, refused_text}
+pub use Rattle.jobs.specs.Listing.{Lines, Lists, refused_text, error_text}
 pub use Rattle.memories.specs.Meaning.{Meaning, Sound, poked}
 pub use Rattle.memories.specs.Calls.{Peeks, Pokes}
 pub use Rattle.memories.specs.Kinds.{blank, on_chip, of_bytes, board, joined}
@@ -19,6 +19,7 @@ pub use Rattle.machine.specs.Runs.{Ran, ran, hindered, lone, stop_number, Report
 pub use Rattle.machine.specs.Calls.{State, Poke, Fits, Reached, does, performs, last_poked}
 pub use Rattle.machine.specs.Views.{Views}
 pub use Rattle.machine.specs.Laws.{MachineLaws}
+pub use Rattle.facts.specs.Marks.{any_frame, marks_text}
 pub use Rattle.facts.specs.Spans.{point, up_to, hull, contains, moved}
 pub use Rattle.ledger.specs.Rows.{blank_row}
 pub use Rattle.ledger.specs.Ledgers.{Ledger}

@@ -1,8 +1,9 @@
 // The verdict on an image that is fit to be inspected.
-ghost use Rattle.std.specs.Prelude.{◌≡◌, ◌+◌, length, if◌then◌else◌, slice_index};
+ghost use Rattle.std.specs.Prelude.{◌≡◌, ◌+◌, length, replicate, if◌then◌else◌, slice_index};
 ghost use Rattle.words.specs.Decoding.{instruction_of};
 ghost use Rattle.ledger.specs.Interrupts.{word_enables, interruptible};
 ghost use Rattle.ledger.specs.Ledgers.{zero_spans};
+ghost use Rattle.ledger.specs.Rows.{blank_row};
 ghost use Rattle.inspection.specs.Facts.{handler_marks};
 ghost use Rattle.inspection.specs.Inspects.{Decides, Judges};
 ghost use Rattle.inspection.specs.Obstacles.{FitsDevice};
@@ -121,6 +122,13 @@ impl Sheet<'_, '_> {
     }
 }
 
+// Zeros in every row. A function of its own, so that its contract alone says what that leaves.
+fn clear_rows(rows: &mut [Row])
+    ensures { rows.new ≡ replicate (length rows.old) blank_row }
+{
+    rows.fill(Row::blank());
+}
+
 // The certified depth with the rows of the smallest ledger, or a refusal with rows of zeros.
 pub(crate) fn certify(words: &[u32], owned: OwnedPages, rows: &mut [Row]) -> Result<usize, Refusal>
     requires { FitsDevice words.now × (length rows.old ≡ length words.now) }
@@ -129,7 +137,7 @@ pub(crate) fn certify(words: &[u32], owned: OwnedPages, rows: &mut [Row]) -> Res
     let mut sheet = Sheet { words, rows };
     let verdict = sheet.judge(owned);
     if verdict.is_err() {
-        rows.fill(Row::blank());
+        clear_rows(rows);
     }
     verdict
 }

@@ -1,5 +1,5 @@
 // The number, the value and the sentence of each refusal.
-use huigasto::{Refusal, RefusedJob};
+use huigasto::{JobError, Refusal, RefusedJob};
 use std::test::Fail;
 
 const TABLE: [(Refusal, u8, usize, &str); 29] = [
@@ -176,6 +176,18 @@ fn every_refusal(rt: HostRuntime) -> Result<(), Fail> {
         assert_eq!(rt; refusal.value(), value);
         assert_eq!(rt; refusal.to_string(rt.alloc())?.as_str(), sentence);
     }
+    Ok(())
+}
+
+// In the words by which `ledger_csv` says why there is no table.
+#[test]
+fn why_a_job_was_not_read(rt: HostRuntime) -> Result<(), Fail> {
+    for (refusal, _, _, sentence) in TABLE {
+        let error = JobError::Refused(refusal);
+        assert_eq!(rt; error.to_string(rt.alloc())?.as_str(), sentence);
+    }
+    let error = JobError::OutOfMemory;
+    assert_eq!(rt; error.to_string(rt.alloc())?.as_str(), "out of memory");
     Ok(())
 }
 

@@ -80,7 +80,8 @@ impl Board {
         Ok(Stepped::TRANSFER)
     }
 
-    // Between Rd and a port or a cell of the page.
+    // Between Rd and a port or a cell of the page. In line, where a run comes to it for each such word.
+    #[inline(always)]
     fn transfer<M: Memory>(
         &mut self,
         transfer: Transfer,
